@@ -1,0 +1,6 @@
+-- What was copied so far are the first items.
+use Rattle.std.proofs.Common.{◌≡◌, take}
+use Rattle.pg_lists.proofs.items.ItemsTryCopy.try_copy.Given as goal
+
+abbrev pub invariant-loop-item : goal.invariant-loop-item
+invariant-loop-item g l = l.items.items ≡ take l.item-index l.item-items
