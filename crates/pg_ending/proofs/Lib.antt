@@ -1,0 +1,4 @@
+pub mod Less
+pub mod Ending
+pub mod Totals
+mod Countdown
