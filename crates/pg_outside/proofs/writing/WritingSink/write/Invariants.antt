@@ -1,0 +1,10 @@
+-- Until a write succeeds or fails for good, the bytes and the count stay.
+use Rattle.std.proofs.Common.{◌≡◌}
+use Rattle.std.specs.Io.KnownBytes.{Keeps}
+use Rattle.pg_outside.proofs.writing.WritingSink.write.Given as goal
+
+abbrev pub invariant-loop : goal.invariant-loop
+invariant-loop g l = record {
+  same : l.self.faults ≡ l.initial.self.faults;
+  kept : Keeps (g.W.Write.contents l.initial.self.inner) (g.W.Write.contents l.self.inner);
+}
