@@ -1,0 +1,9 @@
+pub mod Concat
+pub mod Fit
+pub mod Kind
+pub mod Laws
+pub mod Number
+pub mod Operands
+pub mod Order
+pub mod Text
+pub mod Truth
