@@ -1,0 +1,29 @@
+-- Laws of expressions.
+use Rattle.std.specs.Prelude.{◌≡◌, ◌≢◌, ◌⊎◌, ℕ, List, Option, Ok, Err}
+use Rattle.pg_values.specs.declared.value.Kind.{Kind}
+use Rattle.pg_values.specs.declared.value.Value.{Value}
+use Rattle.pg_values.specs.declared.value.Value.TheVariants.{Null}
+use Rattle.pg_values.specs.Kind.{kind_of_value}
+use Rattle.pg_exprs.specs.declared.evaluate.EvalFault.TheVariants.{Memory}
+use Rattle.pg_exprs.specs.Columns.{column_kind}
+use Rattle.pg_exprs.specs.Environment.{Environment, column_value}
+use Rattle.pg_exprs.specs.Evaluation.{eval}
+use Rattle.pg_exprs.specs.Kinds.{kind_of}
+use Rattle.pg_exprs.specs.Tree.{Tree}
+
+-- NULL is of every kind
+abbrev pub HasKind : Value → Option Kind → Type 0
+HasKind value kind = (value ≡ Null) ⊎ (kind_of_value value ≡ kind)
+
+-- each column has the kind that the shape says
+abbrev pub FitsShape : Environment → List (List (Option Kind)) → Type 0
+FitsShape env shape = (source place : ℕ) → HasKind (column_value env source place) (column_kind shape source place)
+
+-- over rows that fit the shape, an expression's value has the expression's kind
+abbrev pub KindsAreKept : Type 0
+KindsAreKept = (tree : Tree) (shape : List (List (Option Kind))) (env : Environment) (kind : Option Kind) (value : Value) →
+    FitsShape env shape → kind_of tree shape ≡ Ok kind → eval tree env ≡ Ok value → HasKind value kind
+
+-- want of memory is no part of what an expression means
+abbrev pub EvaluationNeedsNoMemory : Type 0
+EvaluationNeedsNoMemory = (tree : Tree) (env : Environment) → eval tree env ≢ Err Memory

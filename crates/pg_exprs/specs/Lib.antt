@@ -1,0 +1,9 @@
+pub mod Code
+pub mod Columns
+pub mod Environment
+pub mod Evaluation
+pub mod Kinds
+pub mod Laws
+pub mod Node
+pub mod Operand
+pub mod Tree
