@@ -1,0 +1,5 @@
+use Rattle.pg_lexer.proofs.Readings.{one_reading}
+use Rattle.pg_lexer.proofs.laws.at_most_one_reading.Goals as goal
+
+pub returns : goal.returns
+returns c = one_reading

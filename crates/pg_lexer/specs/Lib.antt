@@ -1,0 +1,8 @@
+-- In the order in which they are explained.
+pub mod Bytes
+pub mod Keywords
+pub mod Signs
+pub mod Lexemes
+pub mod Reading
+pub mod Laws
+pub mod Found

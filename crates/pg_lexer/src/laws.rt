@@ -1,0 +1,16 @@
+ghost use Rattle.pg_lexer.specs.Laws.{AtMostOneReading, EachLineIsRead, KeywordsAreTheirSpellings};
+
+/// A line has at most one reading.
+pub fn at_most_one_reading()
+    ensures { AtMostOneReading }
+{}
+
+/// Each line has a reading.
+pub fn each_line_is_read()
+    ensures { EachLineIsRead }
+{}
+
+/// A reserved word is found by its spelling, and by nothing else.
+pub fn keywords_are_their_spellings()
+    ensures { KeywordsAreTheirSpellings }
+{}
