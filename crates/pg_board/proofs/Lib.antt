@@ -1,0 +1,7 @@
+pub mod Places
+pub mod Newest
+pub mod Steps
+pub mod Taken
+pub mod Settling
+pub mod Moved
+pub mod Next

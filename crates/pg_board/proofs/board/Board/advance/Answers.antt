@@ -1,0 +1,9 @@
+use Rattle.pg_board.proofs.Steps.{tied_more}
+use Rattle.pg_board.proofs.board.Board.advance.Goals as goal
+
+pub invariant_of-self-2 : goal.invariant_of-self-2
+invariant_of-self-2 c =
+    let first = rw (← c.self.view_is) at c.requires.first in
+    rw (c.push_reserved.ensures.items, c.reserve.ensures.items, c.in_ok-perform_next.ensures.ok)
+    (tied_more c.self.inside.script c.self.inside.journal.items c.self.inside.world c.self.inside.queues
+    c.self.inside.taken c.args.session c.args.act c.self.invariant first)

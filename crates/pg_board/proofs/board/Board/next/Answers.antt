@@ -1,0 +1,21 @@
+use Rattle.std.proofs.Common.{rules, ◌∙◌, subst}
+use Rattle.pg_model.specs.Sound.{IsSound}
+use Rattle.pg_board.specs.Board.{BoardView}
+use Rattle.pg_board.proofs.Next.{next_free, next_in_script, next_none}
+use Rattle.pg_board.proofs.board.Board.next.Goals as goal
+
+pub returns-clause-session : goal.returns-clause-session
+returns-clause-session c = search rules
+
+pub returns-clause-within : goal.returns-clause-within
+returns-clause-within c =
+    let sound = subst (λ (v : BoardView). IsSound v.script v.world) (c.self.view_is ∙ c.settle.ensures) c.self.invariant.sound in
+    rw c.settle.ensures
+    (next_in_script c.args.self.now.script c.args.self.now.world c.args.self.now.schedule c.or.result sound (returns-clause-session c))
+
+pub returns-clause-can_move : goal.returns-clause-can_move
+returns-clause-can_move c = rw c.settle.ensures (next_free c.args.self.now c.or.result (returns-clause-session c))
+
+pub returns-clause-ended : goal.returns-clause-ended
+returns-clause-ended c =
+    next_none c.args.self.now.script c.args.self.now.world c.args.self.now.schedule c.or.result (returns-clause-session c)

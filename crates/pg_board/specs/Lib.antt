@@ -1,0 +1,4 @@
+pub mod Room
+pub mod Queues
+pub mod Tied
+pub mod Board

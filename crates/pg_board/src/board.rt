@@ -1,0 +1,232 @@
+ghost use Rattle.std.specs.Prelude.{◌≡◌, ◌≢◌, ◌↔◌, ◌<◌, ◌+◌, All, IfErr, IfOk, IfSome, IsTrue, false, OnErr, None, OnOk, Some, length, nat_lt, true};
+ghost use Rattle.pg_model.specs.Journals.{IsLegal, world_after};
+ghost use Rattle.pg_model.specs.Moves.{moves_of};
+ghost use Rattle.pg_model.specs.Rows.{tables_of};
+ghost use Rattle.pg_model.specs.Stepped.{first_of_list, is_closed, next_session, ready, settled};
+ghost use Rattle.pg_board.specs.Board.{MovedBy, first_board, has_ended, is_unqueued, waits_for_lines};
+
+use crate::effects::perform_next;
+use crate::first::new_world;
+use crate::moves::next_act;
+use crate::queues::{Queue, enqueue, line_of, new_queues, session_at};
+use crate::rows::copy_tables;
+use crate::schedule::{has_queued, ready_session, remaining_session, stands_idle};
+use pg_lists::{Items, TryCopy};
+use pg_model::{Entry, EntryAct, Finished, Script, World};
+use std::alloc::{AllocError, Global};
+use std::marker::Model;
+
+/// What a step of a session came to.
+#[derive(Clone, Copy, Debug, PartialEq, Eq)]
+pub enum Step {
+    /// One entry was added to the journal.
+    Moved,
+    /// The session is between statements, its queue is empty and lines remain untaken.
+    Idle,
+    /// The session has ended.
+    Closed,
+    /// There was no memory for the step.
+    Memory,
+}
+
+/// All sessions of a script, with their journal so far and the world that it leaves.
+#[derive(Debug, Drop)]
+pub struct Board {
+    alloc: Global,
+    script: Script,
+    journal: Vec<Entry>,
+    world: World,
+    queues: Items<Queue>,
+    taken: usize,
+    last: Option<u32>,
+}
+
+impl Model for Board {
+    ghost use Rattle.pg_board.specs.Board.{BoardView};
+    ghost use Rattle.pg_board.specs.Tied.{IsTied};
+
+    ghost Value = { BoardView };
+
+    ghost view = { λ b. record { script = b.script; journal = b.journal.items; world = b.world; schedule = record { taken = b.taken; last = b.last } } };
+
+    ghost invariant = { λ b. IsTied b.script b.journal.items b.world b.queues b.taken };
+}
+
+impl Board {
+    /// A board of the script: an empty journal, and the world after setup.
+    pub fn new(alloc: Global, script: &Script) -> Result<Board, AllocError>
+        ensures { IfOk result (λ board. board ≡ first_board script.now) }
+    {
+        let world = new_world(alloc, script)?;
+        let queues = new_queues(alloc, script)?;
+        let script = script.try_copy(alloc)?;
+        Ok(Board {
+            alloc,
+            script,
+            journal: Vec::new(alloc),
+            world,
+            queues,
+            taken: 0,
+            last: None,
+        })
+    }
+
+    /// The script that the board keeps.
+    pub fn script(&self) -> &Script
+        ensures { result.now ≡ self.now.script }
+    {
+        &self.script
+    }
+
+    /// The entries so far, oldest first.
+    pub fn journal(&self) -> &[Entry]
+        ensures entries { result.now ≡ self.now.journal }
+        ensures legal { IsLegal self.now.script self.now.journal }
+        ensures reached { self.now.world ≡ world_after self.now.script self.now.journal }
+    {
+        self.journal.as_slice()
+    }
+
+    /// Lets a session, one of the script's, make its next move.
+    pub fn step(&mut self, session: u32) -> Step
+        requires { session < length self.old.script.sessions }
+        ensures moved { result ≡ Step.Moved → MovedBy session self.old self.new }
+        ensures stays { result ≢ Step.Moved → self.new ≡ self.old }
+
+        ensures idle { (result ≡ Step.Idle) ↔ IsTrue (waits_for_lines self.old session) }
+        ensures closed { (result ≡ Step.Closed) ↔ IsTrue (has_ended self.old session) }
+
+        ensures legal { IsLegal self.new.script self.new.journal }
+        ensures reached { self.new.world ≡ world_after self.new.script self.new.journal }
+    {
+        let untaken = self.taken < self.script.lines.as_slice().len();
+        if untaken && self.has_empty_queue(session) {
+            return Step::Idle;
+        }
+        let Some(act) = self.next_act(session) else {
+            return Step::Closed;
+        };
+        match self.advance(session, act) {
+            Ok(()) => Step::Moved,
+            Err(_) => Step::Memory,
+        }
+    }
+
+    /// Takes lines until a session is ready, and answers the session that moves next, or `None` where
+    /// each has ended. A `step` of that session moves it, unless there is no memory.
+    pub fn next(&mut self) -> Option<u32>
+        ensures session { result ≡ next_session self.old.script self.old.world self.old.schedule }
+        ensures schedule { self.new ≡ record self.old { schedule = settled self.old.script self.old.world self.old.schedule } }
+
+        ensures within { IfSome result (λ session. session < length self.new.script.sessions) }
+        ensures can_move { IfSome result (λ session. (waits_for_lines self.new session ≡ false) × (has_ended self.new session ≡ false)) }
+        ensures ended { (result ≡ None) ↔ All (λ x. is_closed x.progress ≡ true) self.old.world.sessions }
+    {
+        self.settle();
+        self.ready().or(remaining_session(&self.world))
+    }
+
+    /// Ends a run in which every session is closed: its journal, and the committed rows of each table.
+    ///
+    /// For want of memory the board comes back as it was.
+    pub fn finish(self) -> Result<Finished, (Board, AllocError)>
+        requires { All (λ x. is_closed x.progress ≡ true) self.world.sessions }
+        ensures journal { IfOk result (λ finished. finished.journal ≡ self.journal) }
+        ensures tables { IfOk result (λ finished. finished.tables ≡ tables_of self.world) }
+        ensures err { IfErr result (λ refused. refused.0 ≡ self) }
+    {
+        match copy_tables(self.alloc, &self.world) {
+            Ok(tables) => {
+                let Board { journal, .. } = self;
+                Ok(Finished {
+                    journal: Items::from_vec(journal),
+                    tables,
+                })
+            }
+            Err(error) => Err((self, error)),
+        }
+    }
+
+    /// Whether the session is between statements without a queued line.
+    fn has_empty_queue(&self, session: u32) -> bool
+        requires { session < length self.now.script.sessions }
+        ensures { result ≡ is_unqueued self.now session }
+    {
+        let Some(x) = self.world.sessions.get(session as usize) else {
+            return false;
+        };
+        stands_idle(x) && !has_queued(self.queues.as_slice(), session as usize, x)
+    }
+
+    /// Whether a line of the script is not taken yet.
+    fn has_untaken(&self) -> bool
+        ensures { result ≡ nat_lt self.now.schedule.taken (length self.now.script.lines) }
+    {
+        self.taken < self.script.lines.as_slice().len()
+    }
+
+    /// The first act that is permitted to a session, or `None` where it has ended.
+    #[tactic(auto, using(crate::proofs::Settling::ended_moves))]
+    fn next_act(&self, session: u32) -> Option<EntryAct>
+        requires { session < length self.now.script.sessions }
+        ensures first { result ≡ first_of_list (moves_of self.now.script self.now.world session) }
+        ensures ended { IsTrue (has_ended self.now session) ↔ (result ≡ None) }
+    {
+        let x = self.world.sessions.get(session as usize)?;
+        let queue = self.queues.get(session as usize)?;
+        let line = line_of(&self.script, queue, session, x);
+        next_act(self.alloc, &self.world, x, line)
+    }
+
+    /// Adds the entry of a permitted act, and makes of the world what it makes of it.
+    #[tactic(auto, using(crate::proofs::Steps::has_room, crate::proofs::Steps::has_room_in))]
+    fn advance(&mut self, session: u32, act: EntryAct) -> Result<(), AllocError>
+        requires session { session < length self.old.script.sessions }
+        requires first { first_of_list (moves_of self.old.script self.old.world session) ≡ Some act }
+        ensures ok { OnOk result (MovedBy session self.old self.new) }
+        ensures err { OnErr result (self.new ≡ self.old) }
+    {
+        self.journal.reserve(1)?;
+        let queues = self.queues.as_slice();
+        perform_next(
+            self.alloc,
+            &self.script,
+            queues,
+            &mut self.world,
+            session,
+            &act,
+        )?;
+        self.journal.push_reserved(Entry { session, act });
+        self.last = Some(session);
+        Ok(())
+    }
+
+    /// The session that moves next without another line taken.
+    #[tactic(auto, using(crate::proofs::Taken::ready_by_queues))]
+    fn ready(&self) -> Option<u32>
+        ensures { result ≡ ready self.now.script self.now.world self.now.schedule }
+    {
+        ready_session(&self.world, self.queues.as_slice(), self.last)
+    }
+
+    /// Takes lines until a session is ready or no line is left.
+    #[tactic(auto, using(crate::proofs::Settling::settled_at_end, crate::proofs::Settling::settled_at_ready, crate::proofs::Settling::settled_on))]
+    fn settle(&mut self)
+        ensures { self.new ≡ record self.old { schedule = settled self.old.script self.old.world self.old.schedule } }
+    {
+        while self.has_untaken() && self.ready().is_none() {
+            self.take_line();
+        }
+    }
+
+    /// Takes the next line of the script, which is then queued for its session.
+    #[tactic(auto, using(crate::proofs::Taken::queues_next, crate::proofs::Taken::taken_bound))]
+    fn take_line(&mut self)
+        requires { self.old.schedule.taken < length self.old.script.lines }
+        ensures { self.new ≡ record self.old { schedule = record self.old.schedule { taken = self.old.schedule.taken + 1 } } }
+    {
+        let session = session_at(&self.script, self.taken);
+        enqueue(&mut self.queues, session);
+        self.taken += 1;
+    }
+}
