@@ -1,0 +1,4 @@
+pub mod WordLemmas
+pub mod Drafts
+pub mod Replaying
+pub mod Telling

@@ -1,0 +1,6 @@
+pub mod Words
+pub mod Forms
+pub mod Reading
+pub mod Commands
+pub mod Headline
+pub mod Prepared

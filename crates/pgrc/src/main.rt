@@ -1,0 +1,65 @@
+//! The program: it replays a script of database sessions and prints their replies and the tables.
+#![tactic(auto)]
+
+ghost use Rattle.std.specs.Prelude.{◌≡◌};
+ghost use Rattle.pgrc.specs.Commands.{exit_status as exit_status_of};
+
+mod draft;
+mod forms;
+mod front;
+mod messages;
+mod names;
+mod prepare;
+mod read;
+mod replay;
+mod script_fault;
+mod status;
+mod words;
+
+use crate::front::top;
+use crate::status::Status;
+use pg_outside::{NoGate, StderrSink, StdinSource, StdoutSink};
+use std::process::ExitCode;
+use std::rt::Env;
+use std::{env, io};
+
+fn main(rt: HostRuntime) -> ExitCode {
+    // Words that the system does not tell as text are no command.
+    let words = match words_behind_name(&rt) {
+        Ok(words) => words,
+        Err(_) => Vec::new(rt.alloc()),
+    };
+    let report = top(
+        &rt,
+        rt.alloc(),
+        words.as_slice(),
+        &mut StdinSource::new(rt.stdin()),
+        &mut StdoutSink::new(rt.stdout()),
+        &mut StderrSink::new(rt.stderr()),
+        &NoGate,
+    );
+    ExitCode::from(exit_status(report.status))
+}
+
+/// The words behind the program's name.
+fn words_behind_name(rt: &(impl Env + AllocGlobal)) -> io::Result<Vec<String>> {
+    let mut words = Vec::new(rt.alloc());
+    for word in env::args(rt)?.skip(1) {
+        words.push(word)?;
+    }
+    Ok(words)
+}
+
+/// The exit status of the program.
+fn exit_status(status: Status) -> u8
+    ensures { result ≡ exit_status_of status }
+{
+    match status {
+        Status::Done => 0,
+        Status::Usage => 2,
+        Status::Memory => 3,
+        Status::Refused => 4,
+        Status::ReadFault => 5,
+        Status::WriteFault => 6,
+    }
+}
