@@ -3,5 +3,4 @@ pub mod Newest
 pub mod Steps
 pub mod Taken
 pub mod Settling
-pub mod Moved
 pub mod Next

@@ -1,8 +1,7 @@
 -- The session that moves next is one of the script's and can move; there is none where each has ended.
-use Rattle.std.proofs.Common.{◌≡◌, ◌<◌, ◌↔◌, ◌&&◌, ℕ, Bool, true, false, not, nat_lt, All, IfSome, List, length, Option, Some, None, refl, sym, ap, ◌∙◌, arith}
+use Rattle.std.proofs.Common.{◌≡◌, ◌<◌, ◌↔◌, ◌&&◌, ℕ, Bool, true, false, not, nat_lt, All, IfSome, length, Option, Some, None, refl, sym, ◌∙◌, arith}
 use Rattle.std.proofs.lemmas.Bool.Decides.{nat_tests}
 use Rattle.pg_model.specs.declared.script.Script.{Script}
-use Rattle.pg_model.specs.declared.journal.Entry.{Entry}
 use Rattle.pg_model.specs.declared.world.Progress.{Progress}
 use Rattle.pg_model.specs.declared.world.Progress.TheVariants.{Idle, Inside, Closed}
 use Rattle.pg_model.specs.declared.world.World.{World}

@@ -185,6 +185,8 @@ impl Board {
         requires first { first_of_list (moves_of self.old.script self.old.world session) ≡ Some act }
         ensures ok { OnOk result (MovedBy session self.old self.new) }
         ensures err { OnErr result (self.new ≡ self.old) }
+        ensures legal { IsLegal self.new.script self.new.journal }
+        ensures reached { self.new.world ≡ world_after self.new.script self.new.journal }
     {
         self.journal.reserve(1)?;
         let queues = self.queues.as_slice();

@@ -282,8 +282,8 @@ fn find_word(words: &[Keyword], word: &[u8]) -> Option<Keyword>
         .find(|keyword| keyword.spelling() == word)
 }
 
-/// The reserved word that is spelled so in lower case.
-pub(crate) fn keyword_of(word: &[u8]) -> Option<Keyword>
+/// The reserved word that is spelled so in lower case, if one is.
+pub fn keyword_of(word: &[u8]) -> Option<Keyword>
     ensures { result ≡ keyword_of word.now }
 {
     let (first, _) = word.split_first()?;

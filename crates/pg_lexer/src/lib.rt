@@ -11,7 +11,7 @@ mod text;
 mod token;
 mod word;
 
-pub use keyword::Keyword;
+pub use keyword::{Keyword, keyword_of};
 pub use laws::{at_most_one_reading, each_line_is_read, keywords_are_their_spellings};
 pub use read::{LexFault, Lexed, read_front, read_tokens};
 pub use sign::Sign;

@@ -3,7 +3,7 @@ use Rattle.std.proofs.Common.{◌≡◌, ◌<◌, ◌≤◌, ◌+◌, ◌*◌, �
 use Rattle.std.specs.List.{list_all, prefix_len}
 use Rattle.std.proofs.lemmas.Bool.{eqb-true, le-leb, lt-leb}
 use Rattle.pg_model.specs.Names.{is_name_byte}
-use Rattle.pgrc.specs.Forms.{begins_with_digit, is_among, is_name, is_spelled, reserved_words}
+use Rattle.pgrc.specs.Forms.{begins_with_digit, is_name, is_reserved, is_spelled}
 use Rattle.pgrc.specs.Reading.{small_number}
 use Rattle.pgrc.specs.Words.{begins_blank, glued, is_blank, is_word_byte, lines_in, number_from, without_last, words_in}
 
@@ -124,4 +124,4 @@ and_second false b e = absurd (cc)
 pub name_bytes : (word : List ℕ) → is_name word ≡ true → list_all is_name_byte word ≡ true
 name_bytes word is =
     and_second (not (begins_with_digit word)) (list_all is_name_byte word)
-    (and_first (is_spelled word) (nat_le (length word) 63) (not (is_among word reserved_words)) is)
+    (and_first (is_spelled word) (nat_le (length word) 63) (not (is_reserved word)) is)

@@ -1,10 +1,11 @@
 -- The forms of a line, as they are spelled in words.
 use Rattle.std.specs.Prelude.{ℕ, ◌&&◌, ◌||◌, Bool, true, false, if◌then◌else◌, not, nat_le, List, [], ◌∷◌, codes, length, map, Option, None, Some, option_map}
-use Rattle.std.specs.List.{list_all, list_any}
+use Rattle.std.specs.List.{list_all}
+use Rattle.std.specs.Option.{option_map_or}
 use Rattle.std.specs.Str.{bytes_eq}
 use Rattle.pgrc.specs.declared.forms.Form.{Form}
 use Rattle.pgrc.specs.declared.forms.Form.TheVariants.{Declares, Inserts}
-use Rattle.pgrc.specs.declared.names.TheConstants.{RESERVED}
+use Rattle.pg_lexer.specs.Keywords.{keyword_of, may_be_name}
 use Rattle.pg_model.specs.Names.{is_digit, is_name_byte}
 use Rattle.pgrc.specs.Words.{folded, without_last, words_in}
 
@@ -63,13 +64,9 @@ form_of line =
     if is_setup (words_in line) then declaration_in (unended (map folded (words_in line)))
     else insertion_in (unended (map folded (words_in line)))
 
--- the words that are reserved for the language
-unfoldable pub reserved_words : List (List ℕ)
-reserved_words = words_in RESERVED.now
-
--- the word is among these
-abbrev pub is_among : List ℕ → List (List ℕ) → Bool
-is_among word words = list_any (λ other. bytes_eq word other) words
+-- the word is reserved for the language, and may not be a name
+abbrev pub is_reserved : List ℕ → Bool
+is_reserved word = option_map_or (λ keyword. not (may_be_name keyword)) (keyword_of word) false
 
 abbrev pub begins_with_digit : List ℕ → Bool
 begins_with_digit [] = true
@@ -81,7 +78,7 @@ is_spelled word = not (begins_with_digit word) && list_all is_name_byte word
 
 -- a name has at most 63 bytes, and is no reserved word
 abbrev pub is_name : List ℕ → Bool
-is_name word = is_spelled word && nat_le (length word) 63 && not (is_among word reserved_words)
+is_name word = is_spelled word && nat_le (length word) 63 && not (is_reserved word)
 
 -- the word is none of those that begin other lines
 abbrev pub is_free : List ℕ → Bool

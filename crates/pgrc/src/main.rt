@@ -17,16 +17,22 @@ mod status;
 mod words;
 
 use crate::front::top;
+use crate::messages::tell;
 use crate::status::Status;
 use pg_outside::{NoGate, StderrSink, StdinSource, StdoutSink};
+use std::io::ErrorKind;
 use std::process::ExitCode;
 use std::rt::Env;
 use std::{env, io};
 
 fn main(rt: HostRuntime) -> ExitCode {
-    // Words that the system does not tell as text are no command.
     let words = match words_behind_name(&rt) {
         Ok(words) => words,
+        Err(error) if error.kind() == ErrorKind::OutOfMemory => {
+            tell(&mut StderrSink::new(rt.stderr()), b"out of memory\n");
+            return ExitCode::from(exit_status(Status::Memory));
+        }
+        // Words that the system does not tell as text are no command.
         Err(_) => Vec::new(rt.alloc()),
     };
     let report = top(
@@ -63,3 +69,6 @@ fn exit_status(status: Status) -> u8
         Status::WriteFault => 6,
     }
 }
+
+#[cfg(test)]
+mod tests;

@@ -2,36 +2,19 @@ ghost use Rattle.std.specs.Prelude.{◌≡◌, FitsSigned, IfSome, true};
 ghost use Rattle.std.specs.Int.{w32};
 ghost use Rattle.std.specs.List.{list_all};
 ghost use Rattle.pg_model.specs.Names.{is_digit as is_a_digit, is_name_byte as is_a_name_byte};
-ghost use Rattle.pgrc.specs.Words.{words_in};
 ghost use Rattle.pgrc.specs.Reading.{small_number};
-ghost use Rattle.pgrc.specs.Forms.{begins_with_digit as has_digit_first, is_among as is_one_of, is_free as is_none_of_them, is_name as is_a_name, is_session as is_a_session, is_spelled as is_spelled_well, reserved_words};
+ghost use Rattle.pgrc.specs.Forms.{begins_with_digit as has_digit_first, is_free as is_none_of_them, is_name as is_a_name, is_session as is_a_session, is_reserved as is_a_reserved_word, is_spelled as is_spelled_well};
 
-use crate::words::next_word;
+use pg_lexer::keyword_of;
 
-/// The words that are reserved for the language, in lower case.
-pub const RESERVED: &[u8] =
-    b"abort and as asc begin bigint bool boolean by check commit committed conflict constraint create default delete desc distinct do end false for from index inner insert int integer into is isolation join limit matched merge not nowait null nulls of on or order primary returning rollback select set skip table text then transaction true unique update using values when where";
-
-/// Whether a word is one of the words of a text.
-fn is_among(word: &[u8], text: &[u8]) -> bool
-    ensures { result ≡ is_one_of word.now (words_in text.now) }
-{
-    let mut rest = text;
-    while let Some((other, behind)) = next_word(rest) {
-        if word == other {
-            return true;
-        }
-        rest = behind;
-    }
-    false
-}
-
-/// Whether a word is reserved for the language.
-#[tactic(auto, unfolding(crate::specs::Forms::reserved_words))]
+/// Whether a word is reserved for the language, so that it is no name.
 fn is_reserved(word: &[u8]) -> bool
-    ensures { result ≡ is_one_of word.now reserved_words }
+    ensures { result ≡ is_a_reserved_word word.now }
 {
-    is_among(word, RESERVED)
+    match keyword_of(word) {
+        Some(keyword) => !keyword.may_be_name(),
+        None => false,
+    }
 }
 
 /// Whether a byte is a lower-case letter, a digit or `_`.

@@ -7,3 +7,9 @@ invariant_of-self-2 c =
     rw (c.push_reserved.ensures.items, c.reserve.ensures.items, c.in_ok-perform_next.ensures.ok)
     (tied_more c.self.inside.script c.self.inside.journal.items c.self.inside.world c.self.inside.queues
     c.self.inside.taken c.args.session c.args.act c.self.invariant first)
+
+pub returns-clause-legal : goal.returns-clause-legal
+returns-clause-legal c = (invariant_of-self-2 c).legal
+
+pub returns-clause-reached : goal.returns-clause-reached
+returns-clause-reached c = (invariant_of-self-2 c).reached
