@@ -26,13 +26,6 @@ pub const MOST_BYTES: usize = 1048576;
 /// The most columns of a table.
 const MOST_COLUMNS: usize = 64;
 
-/// An integer.
-fn integer(number: i32) -> Value
-    ensures { result ≡ Value.Int number }
-{
-    Value::Int(number)
-}
-
 /// The value of a literal, or `None` where the word is none.
 fn literal_of(word: &[u8]) -> Option<Value>
     ensures { result ≡ value_of_literal word.now }
@@ -40,10 +33,8 @@ fn literal_of(word: &[u8]) -> Option<Value>
     if !has_digits(word) {
         return None;
     }
-    match number_of(word) {
-        Some(number) => Some(integer(number)),
-        None => None,
-    }
+    let number = number_of(word)?;
+    Some(Value::Int(number))
 }
 
 /// The values of literals, or `None` where a word is none.
