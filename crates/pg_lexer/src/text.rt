@@ -30,6 +30,7 @@ impl NameText {
         NameText { bytes }
     }
 
+    /// A name of these bytes: 1 to 63 lower-case letters, digits and `_`, no digit first.
     pub fn from_slice(alloc: Global, bytes: &[u8]) -> Result<NameText, AllocError>
         requires { IsTrue (is_name bytes.now) }
         ensures { IfOk result (λ name. name ≡ bytes.now) }
