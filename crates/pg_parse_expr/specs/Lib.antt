@@ -1,0 +1,6 @@
+pub mod Tree
+pub mod Code
+pub mod Node
+pub mod Operators
+pub mod Grammar
+pub mod Behind
