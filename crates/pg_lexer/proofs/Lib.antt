@@ -5,3 +5,4 @@ pub mod Cuts
 pub mod Words
 pub mod Quotes
 pub mod Readings
+pub mod Spans

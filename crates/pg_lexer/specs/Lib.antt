@@ -2,6 +2,7 @@
 pub mod Bytes
 pub mod Keywords
 pub mod Signs
+pub mod Spans
 pub mod Lexemes
 pub mod Reading
 pub mod Laws

@@ -16,7 +16,7 @@ pub use laws::{at_most_one_reading, each_line_is_read, keywords_are_their_spelli
 pub use read::{LexFault, Lexed, read_front, read_tokens};
 pub use sign::Sign;
 pub use text::{NameText, QuotedText};
-pub use token::{BadPlace, Spanned, Token, Tokens};
+pub use token::{BadPlace, Span, Spanned, Token, Tokens};
 
 #[cfg(test)]
 mod tests;

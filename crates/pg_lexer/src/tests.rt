@@ -22,12 +22,17 @@ fn is_shown(token: &Token, shown: Shown) -> bool {
     }
 }
 
-fn are_shown(tokens: &[Spanned], shown: &[(Shown, u32, u32)]) -> bool {
-    if tokens.len() != shown.len() {
+fn are_shown(tokens: &Tokens, shown: &[(Shown, u32, u32)]) -> bool {
+    if tokens.tokens().len() != shown.len() || tokens.spans().len() != shown.len() {
         return false;
     }
-    for (token, (want, start, end)) in tokens.iter().zip(shown) {
-        if !is_shown(&token.token, *want) || token.start != *start || token.end != *end {
+    for (token, (want, _, _)) in tokens.tokens().iter().zip(shown) {
+        if !is_shown(token, *want) {
+            return false;
+        }
+    }
+    for (span, (_, start, end)) in tokens.spans().iter().zip(shown) {
+        if span.start != *start || span.end != *end {
             return false;
         }
     }
@@ -141,7 +146,7 @@ fn lines_have_their_tokens(rt: HostRuntime) -> Result<(), AllocError> {
         let lexed = read_front(rt.alloc(), line, 1)?;
         assert!(rt; lexed.fault.is_none() && lexed.end as usize == line.len() + 1);
         assert!(rt;
-            are_shown(lexed.tokens.as_slice(), shown),
+            are_shown(&lexed.tokens, shown),
             "the tokens of {}",
             line.len()
         );
@@ -180,7 +185,7 @@ fn bad_lines_have_their_places(rt: HostRuntime) -> Result<(), AllocError> {
     for (line, tokens, fault) in rows {
         let lexed = read_front(rt.alloc(), line, 1)?;
         assert!(rt; lexed.fault == Some(fault), "the fault of {}", line.len());
-        assert!(rt; lexed.tokens.as_slice().len() == tokens);
+        assert!(rt; lexed.tokens.tokens().len() == tokens);
     }
     Ok(())
 }
@@ -214,7 +219,7 @@ fn texts_have_at_most_4096_bytes(rt: HostRuntime) -> Result<(), AllocError> {
                     Some(BadPlace::Literal(1))
                 }
         );
-        assert!(rt; lexed.tokens.as_slice().len() == if is_read { 1 } else { 0 });
+        assert!(rt; lexed.tokens.tokens().len() == if is_read { 1 } else { 0 });
     }
     Ok(())
 }
@@ -226,9 +231,9 @@ fn a_line_is_read_from_a_place_on(rt: HostRuntime) -> Result<(), AllocError> {
         (Shown::Sign(Sign::Semicolon), 7, 8),
     ];
     let tokens = read_tokens(rt.alloc(), b"a: END;", 3);
-    assert!(rt; tokens.is_ok_and(|tokens| are_shown(tokens.as_slice(), &shown)));
+    assert!(rt; tokens.is_ok_and(|tokens| are_shown(&tokens, &shown)));
     let nothing = read_tokens(rt.alloc(), b"a:", 3);
-    assert!(rt; nothing.is_ok_and(|tokens| tokens.as_slice().is_empty()));
+    assert!(rt; nothing.is_ok_and(|tokens| tokens.tokens().is_empty()));
     let faults: [(&[u8], LexFault); 3] = [
         (b"a:\t'", LexFault::Literal(4)),
         (b"a:99999999999999999999", LexFault::Literal(3)),
@@ -248,7 +253,7 @@ fn a_long_line_is_read(rt: HostRuntime) -> Result<(), AllocError> {
     }
     assert!(rt; line.len() <= 1048576);
     let lexed = read_front(rt.alloc(), line.as_slice(), 1)?;
-    assert!(rt; lexed.fault.is_none() && lexed.tokens.as_slice().len() == 1048576);
+    assert!(rt; lexed.fault.is_none() && lexed.tokens.tokens().len() == 1048576);
     Ok(())
 }
 

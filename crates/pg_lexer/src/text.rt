@@ -30,6 +30,14 @@ impl NameText {
         NameText { bytes }
     }
 
+    pub fn from_slice(alloc: Global, bytes: &[u8]) -> Result<NameText, AllocError>
+        requires { IsTrue (is_name bytes.now) }
+        ensures { IfOk result (λ name. name ≡ bytes.now) }
+    {
+        let bytes = Vec::from_slice(alloc, bytes)?;
+        Ok(NameText { bytes })
+    }
+
     pub fn as_bytes(&self) -> &[u8]
         ensures value { result.now ≡ self.now }
         ensures name { IsTrue (is_name self.now) }

@@ -1,4 +1,5 @@
-ghost use Rattle.std.specs.Prelude.{◌≡◌, ◌++◌, ◌∷◌, [], OnErr, OnOk};
+ghost use Rattle.std.specs.Prelude.{◌≡◌, ◌++◌, ◌∷◌, [], map, OnErr, OnOk};
+ghost use Rattle.pg_lexer.specs.Spans.{span_of};
 
 use crate::keyword::Keyword;
 use crate::sign::Sign;
@@ -42,19 +43,32 @@ pub enum BadPlace {
     Name(u32),
 }
 
-/// Tokens in the order of their places.
+/// Where a token stands in a line; places count bytes from 1.
+#[derive(Clone, Copy, Debug, PartialEq, Eq)]
+pub struct Span {
+    /// The place of the token's first byte.
+    pub start: u32,
+    /// The place behind its last byte.
+    pub end: u32,
+}
+
+/// Tokens in the order of their places, with their spans.
 #[derive(Debug, Drop)]
 pub struct Tokens {
-    items: Vec<Spanned>,
+    tokens: Vec<Token>,
+    spans: Vec<Span>,
 }
 
 impl Model for Tokens {
-    ghost use Rattle.std.specs.Prelude.{List};
+    ghost use Rattle.std.specs.Prelude.{◌≡◌, List, length};
     ghost use Rattle.pg_lexer.specs.declared.token.Spanned.{Spanned};
+    ghost use Rattle.pg_lexer.specs.Spans.{spanned};
 
     ghost Value = { List Spanned };
 
-    ghost view = { λ t. t.items.items };
+    ghost view = { λ t. spanned t.tokens.items t.spans.items };
+
+    ghost invariant = { λ t. length t.tokens.items ≡ length t.spans.items };
 }
 
 impl Tokens {
@@ -62,22 +76,38 @@ impl Tokens {
         ensures { result ≡ [] }
     {
         Tokens {
-            items: Vec::new(alloc),
+            tokens: Vec::new(alloc),
+            spans: Vec::new(alloc),
         }
     }
 
+    #[tactic(auto, using(crate::proofs::Spans::one_more))]
     pub(crate) fn push(&mut self, token: Spanned) -> Result<(), AllocError>
         ensures ok { OnOk result (self.new ≡ self.old ++ token ∷ []) }
         ensures err { OnErr result (self.new ≡ self.old) }
     {
-        self.items.push(token)?;
+        self.tokens.reserve(1)?;
+        self.spans.reserve(1)?;
+        let Spanned { token, start, end } = token;
+        self.tokens.push_reserved(token);
+        self.spans.push_reserved(Span { start, end });
         Ok(())
     }
 
-    pub fn as_slice(&self) -> &[Spanned]
-        ensures { result.now ≡ self.now }
+    /// The tokens alone.
+    #[tactic(auto, using(crate::proofs::Spans::tokens_of))]
+    pub fn tokens(&self) -> &[Token]
+        ensures { result.now ≡ map (λ s. s.token) self.now }
     {
-        self.items.as_slice()
+        self.tokens.as_slice()
+    }
+
+    /// Their spans alone.
+    #[tactic(auto, using(crate::proofs::Spans::spans_of))]
+    pub fn spans(&self) -> &[Span]
+        ensures { result.now ≡ map span_of self.now }
+    {
+        self.spans.as_slice()
     }
 }
 
