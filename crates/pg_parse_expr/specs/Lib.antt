@@ -4,3 +4,4 @@ pub mod Node
 pub mod Operators
 pub mod Grammar
 pub mod Behind
+pub mod Laws
