@@ -5,9 +5,12 @@ use Rattle.pg_values.specs.declared.value.Value.{Value}
 use Rattle.pg_values.specs.declared.value.Value.TheVariants.{Null}
 use Rattle.pg_values.specs.Kind.{kind_of_value}
 use Rattle.pg_exprs.specs.declared.evaluate.EvalFault.TheVariants.{Memory}
+use Rattle.pg_exprs.specs.declared.operator.BinaryOp.TheVariants.{Compare}
+use Rattle.pg_exprs.specs.declared.operator.Comparison.{Comparison}
+use Rattle.pg_exprs.specs.declared.operator.Comparison.TheVariants.{Equal, NotEqual, Less, LessOrEqual, Greater, GreaterOrEqual}
 use Rattle.pg_exprs.specs.Columns.{column_kind}
 use Rattle.pg_exprs.specs.Environment.{Environment, column_value}
-use Rattle.pg_exprs.specs.Evaluation.{eval}
+use Rattle.pg_exprs.specs.Evaluation.{eval, binary_value}
 use Rattle.pg_exprs.specs.Kinds.{kind_of}
 use Rattle.pg_exprs.specs.Tree.{Tree}
 
@@ -27,3 +30,16 @@ KindsAreKept = (tree : Tree) (shape : List (List (Option Kind))) (env : Environm
 -- want of memory is no part of what an expression means
 abbrev pub EvaluationNeedsNoMemory : Type 0
 EvaluationNeedsNoMemory = (tree : Tree) (env : Environment) → eval tree env ≢ Err Memory
+
+-- the comparison that says the same with its sides exchanged
+abbrev pub mirrored : Comparison → Comparison
+mirrored Equal = Equal
+mirrored NotEqual = NotEqual
+mirrored Less = Greater
+mirrored LessOrEqual = GreaterOrEqual
+mirrored Greater = Less
+mirrored GreaterOrEqual = LessOrEqual
+
+-- a comparison and its mirrored one agree
+abbrev pub ComparisonsMirror : Type 0
+ComparisonsMirror = (op : Comparison) (a b : Value) → binary_value (Compare op) a b ≡ binary_value (Compare (mirrored op)) b a

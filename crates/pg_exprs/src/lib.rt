@@ -15,6 +15,6 @@ pub use environment::Env;
 pub use evaluate::{EvalFault, eval};
 pub use expr::{Expr, Node};
 pub use kinds::{KindFault, kind_of};
-pub use laws::{evaluation_needs_no_memory, kinds_are_kept};
+pub use laws::{comparisons_mirror, evaluation_needs_no_memory, kinds_are_kept};
 pub use operator::{Arithmetic, BinaryOp, Comparison, UnaryOp};
 pub use shape::Shape;

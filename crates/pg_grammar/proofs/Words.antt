@@ -54,7 +54,7 @@ pub starts_either : {T V : Type 0} (f g : Option T → Bool) (L M : Lang T V) �
     Starts f (either L M) g
 starts_either {T} {V} f g L M a b = record { starts = λ m s v z l c. elim l [ inl x ↦ a.starts m s v z x c | inr y ↦ b.starts m s v z y c ] }
 
-starts_times : {T V : Type 0} (f g : Option T → Bool) (step : V → Lang T V) → ((a : V) → Starts f (step a) f) →
+pub starts_times : {T V : Type 0} (f g : Option T → Bool) (step : V → Lang T V) → ((a : V) → Starts f (step a) f) →
     ((o : Option T) → g o ≡ true → f o ≡ true) → (n : ℕ) (a : V) → Starts f (times step n a) g
 starts_times f g step a b zero x = starts_gives f g x b
 starts_times f g step a b (suc n) x = starts_bind f f g (step x) (times step n) (a x) (λ y. starts_times f g step a b n y)
@@ -67,7 +67,7 @@ pub starts_reaches : {T V : Type 0} (f g : Option T → Bool) (k : Limit) (h : �
     Starts f (reaches k h L) g
 starts_reaches f g k h L a = record { starts = λ m s v z l c. a.starts m s v z l.1 c }
 
-starts_tie : {T V I : Type 0} (f g : Option T → Bool) (G : (I → Lang T V) → I → Lang T V) →
+pub starts_tie : {T V I : Type 0} (f g : Option T → Bool) (G : (I → Lang T V) → I → Lang T V) →
     ((F : I → Lang T V) → ((j : I) → Starts f (F j) g) → (j : I) → Starts f (G F j) g) → (n : ℕ) (i : I) →
     Starts f (tie G n i) g
 starts_tie f g G h zero i = record { starts = λ m s v z l c. absurd l }

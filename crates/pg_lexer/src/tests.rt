@@ -1,5 +1,6 @@
 use super::*;
 use std::alloc::{AllocError, Global};
+use std::thread::Builder;
 
 /// A token as a table writes it.
 #[derive(Clone, Copy)]
@@ -245,23 +246,48 @@ fn a_line_is_read_from_a_place_on(rt: HostRuntime) -> Result<(), AllocError> {
     Ok(())
 }
 
-#[test]
-fn a_long_line_is_read(rt: HostRuntime) -> Result<(), AllocError> {
-    let mut line = Vec::new(rt.alloc());
-    for _ in 0..524288u32 {
-        line.extend_from_slice(b"a(")?;
+/// How many tokens a line has that writes a piece so many times: `None` where it has a fault.
+fn count_tokens(alloc: Global, piece: &[u8], times: u32) -> Result<Option<usize>, AllocError> {
+    let mut line = Vec::new(alloc);
+    for _ in 0..times {
+        line.extend_from_slice(piece)?;
     }
-    assert!(rt; line.len() <= 1048576);
-    let lexed = read_front(rt.alloc(), line.as_slice(), 1)?;
-    assert!(rt; lexed.fault.is_none() && lexed.tokens.tokens().len() == 1048576);
+    if line.len() != 1048576 {
+        return Ok(None);
+    }
+    let lexed = read_front(alloc, line.as_slice(), 1)?;
+    let count = lexed.tokens.tokens().len();
+    Ok(lexed.fault.is_none().then_some(count))
+}
+
+/// The longest lines, of brackets, minus signs, operators, words and list items, are read in a stack
+/// of 128 KiB.
+#[test]
+fn long_lines_need_little_stack(rt: HostRuntime) -> Result<(), AllocError> {
+    let rows: [(&[u8], u32, usize); 7] = [
+        (b"(", 1048576, 1048576),
+        (b"-", 1048576, 1048576),
+        (b"1+", 524288, 1048576),
+        (b"a,", 524288, 1048576),
+        (b"''||", 262144, 524288),
+        (b"not ", 262144, 262144),
+        (b"        ", 131072, 0),
+    ];
+    for (piece, times, tokens) in rows {
+        let counted = Builder::new()
+            .stack_size(131072)
+            .spawn(&rt, move || count_tokens(rt.alloc(), piece, times))
+            .map_err(|_| AllocError)?;
+        assert!(rt; counted.join(&rt)? == Some(tokens), "{times} pieces");
+    }
     Ok(())
 }
 
 #[test]
 fn names_and_texts_are_copied(rt: HostRuntime) -> Result<(), AllocError> {
     let lexed = read_front(rt.alloc(), b"Name 'text'", 1)?;
-    for token in lexed.tokens.as_slice() {
-        match &token.token {
+    for token in lexed.tokens.tokens() {
+        match token {
             Token::Name(name) => assert!(rt;
                 name.copy(rt.alloc())?.as_bytes() == b"name".as_slice()
             ),

@@ -1,2 +1,2 @@
 mod Division
-mod Mirror
+pub mod Mirror

@@ -1,16 +1,9 @@
-//! Values from outside: PostgreSQL's manual, checked against a server.
-use super::Value::{Bool, Int, Null};
+//! Values from outside: PostgreSQL's manual, and a server of version 15 that was asked each row.
+//!
+//! A table writes `5` for an integer, `5b` for a bigint, `'a'` for a text, and an error by its text.
 use super::*;
 use std::alloc::{AllocError, Global};
-use std::cmp::Ordering::{Equal, Greater, Less};
-
-const INT_MAX: i32 = 2147483647;
-
-const INT_MIN: i32 = -2147483648;
-
-const BIG_MAX: i64 = 9223372036854775807;
-
-const BIG_MIN: i64 = -9223372036854775808;
+use std::cmp::Ordering;
 
 fn text(alloc: Global, letters: &str) -> Result<Value, AllocError> {
     let bytes = letters.as_bytes();
@@ -20,94 +13,198 @@ fn text(alloc: Global, letters: &str) -> Result<Value, AllocError> {
     Ok(Value::Text(Text::from_slice(alloc, bytes)?))
 }
 
-#[test]
-fn adds_subtracts_and_multiplies(rt: HostRuntime) {
-    let big = Value::Big;
-    for (a, b, sum) in [
-        (Int(INT_MAX), Int(0), Ok(Int(INT_MAX))),
-        (Int(INT_MAX), Int(1), Err(NumberFault::IntRange)),
-        (Int(INT_MAX), big(1), Ok(big(2147483648))),
-        (big(-1), Int(INT_MIN), Ok(big(-2147483649))),
-        (big(BIG_MAX), Int(1), Err(NumberFault::BigRange)),
-        (Null, big(1), Ok(Null)),
-    ] {
-        assert_eq!(rt; add(&a, &b), sum);
+/// The value that a table writes; what is none ends the test.
+fn value(alloc: Global, shown: &str) -> Result<Value, AllocError> {
+    if let Some(letters) = shown.strip_prefix("'") {
+        return text(alloc, letters.strip_suffix("'").unwrap_or(letters));
     }
-    for (a, b, difference) in [
-        (Int(INT_MIN), Int(1), Err(NumberFault::IntRange)),
-        (Int(3), big(5), Ok(big(-2))),
-        (big(BIG_MIN), big(1), Err(NumberFault::BigRange)),
-        (Int(1), Null, Ok(Null)),
-    ] {
-        assert_eq!(rt; subtract(&a, &b), difference);
+    if let Some(digits) = shown.strip_suffix("b") {
+        let number = digits.parse::<i64>().map_err(|_| AllocError)?;
+        return Ok(Value::Big(number));
     }
-    for (a, b, product) in [
-        (Int(46341), Int(46340), Ok(Int(2147441940))),
-        (Int(46341), Int(46341), Err(NumberFault::IntRange)),
-        (Int(46341), big(46341), Ok(big(2147488281))),
-        (big(4294967296), big(2147483648), Err(NumberFault::BigRange)),
-        (big(-4294967296), big(2147483648), Ok(big(BIG_MIN))),
-    ] {
-        assert_eq!(rt; multiply(&a, &b), product);
+    Ok(match shown {
+        "null" => Value::Null,
+        "true" => Value::Bool(true),
+        "false" => Value::Bool(false),
+        _ => Value::Int(shown.parse::<i32>().map_err(|_| AllocError)?),
+    })
+}
+
+/// The result that a table writes.
+fn outcome(alloc: Global, shown: &str) -> Result<Result<Value, NumberFault>, AllocError> {
+    Ok(match shown {
+        "integer out of range" => Err(NumberFault::IntRange),
+        "bigint out of range" => Err(NumberFault::BigRange),
+        "division by zero" => Err(NumberFault::ZeroDivisor),
+        _ => Ok(value(alloc, shown)?),
+    })
+}
+
+fn computed(op: &str, a: &Value, b: &Value) -> Result<Value, NumberFault> {
+    match op {
+        "+" => add(a, b),
+        "-" => subtract(a, b),
+        "*" => multiply(a, b),
+        "/" => divide(a, b),
+        _ => remainder(a, b),
     }
 }
 
+/// Whether `a op b` has this result.
+fn gives(alloc: Global, a: &str, op: &str, b: &str, wanted: &str) -> Result<bool, AllocError> {
+    let got = computed(op, &value(alloc, a)?, &value(alloc, b)?);
+    Ok(got == outcome(alloc, wanted)?)
+}
+
 #[test]
-fn divides(rt: HostRuntime) {
-    let big = Value::Big;
-    for (a, b, quotient, rest) in [
-        (Int(7), Int(2), Ok(Int(3)), Ok(Int(1))),
-        (Int(-7), Int(2), Ok(Int(-3)), Ok(Int(-1))),
-        (Int(7), big(-2), Ok(big(-3)), Ok(big(1))),
-        (
-            Int(INT_MIN),
-            Int(-1),
-            Err(NumberFault::IntRange),
-            Ok(Int(0)),
-        ),
-        (Int(INT_MIN), big(-1), Ok(big(2147483648)), Ok(big(0))),
-        (
-            big(BIG_MIN),
-            Int(-1),
-            Err(NumberFault::BigRange),
-            Ok(big(0)),
-        ),
-        (
-            Int(1),
-            Int(0),
-            Err(NumberFault::ZeroDivisor),
-            Err(NumberFault::ZeroDivisor),
-        ),
-        (Null, Int(0), Ok(Null), Ok(Null)),
+fn computes(rt: HostRuntime) -> Result<(), AllocError> {
+    let alloc = rt.alloc();
+    for (a, op, b, result) in [
+        ("2147483647", "+", "0", "2147483647"),
+        ("2147483647", "+", "1", "integer out of range"),
+        ("-2147483648", "+", "-1", "integer out of range"),
+        ("-2147483648", "+", "2147483647", "-1"),
+        ("2147483647", "+", "1b", "2147483648b"),
+        ("-1b", "+", "-2147483648", "-2147483649b"),
+        ("2b", "+", "-2b", "0b"),
+        ("9223372036854775807b", "+", "1", "bigint out of range"),
+        ("-1", "+", "-9223372036854775808b", "bigint out of range"),
+        ("-9223372036854775808b", "+", "9223372036854775807b", "-1b"),
+        ("-2147483648", "-", "0", "-2147483648"),
+        ("-2147483648", "-", "1", "integer out of range"),
+        ("0", "-", "-2147483648", "integer out of range"),
+        ("-1", "-", "-2147483648", "2147483647"),
+        ("3", "-", "5b", "-2b"),
+        ("0b", "-", "-2147483648", "2147483648b"),
+        ("-9223372036854775808b", "-", "1b", "bigint out of range"),
+        ("0", "-", "-9223372036854775808b", "bigint out of range"),
+        ("-1b", "-", "-9223372036854775808b", "9223372036854775807b"),
+        ("46341", "*", "46340", "2147441940"),
+        ("46341", "*", "46341", "integer out of range"),
+        ("65536", "*", "-32768", "-2147483648"),
+        ("-2147483648", "*", "-1", "integer out of range"),
+        ("-2147483648", "*", "0", "0"),
+        ("46341", "*", "46341b", "2147488281b"),
+        ("-1b", "*", "-2147483648", "2147483648b"),
+        ("4294967296b", "*", "2147483648b", "bigint out of range"),
+        ("-4294967296b", "*", "2147483648b", "-9223372036854775808b"),
+        ("-9223372036854775808b", "*", "-1", "bigint out of range"),
+        ("0", "*", "-9223372036854775808b", "0b"),
     ] {
-        assert_eq!(rt; divide(&a, &b), quotient);
-        assert_eq!(rt; remainder(&a, &b), rest);
+        assert!(rt; gives(alloc, a, op, b, result)?, "{a} {op} {b}");
     }
-    for (a, negated) in [
-        (Int(5), Ok(Int(-5))),
-        (Int(INT_MIN), Err(NumberFault::IntRange)),
-        (big(BIG_MIN), Err(NumberFault::BigRange)),
-        (big(-2147483648), Ok(big(2147483648))),
-        (Null, Ok(Null)),
+    Ok(())
+}
+
+#[test]
+fn divides(rt: HostRuntime) -> Result<(), AllocError> {
+    let alloc = rt.alloc();
+    for (a, b, quotient, rest) in [
+        ("7", "2", "3", "1"),
+        ("-7", "2", "-3", "-1"),
+        ("7", "-2b", "-3b", "1b"),
+        ("-7b", "-2b", "3b", "-1b"),
+        ("-1", "2", "0", "-1"),
+        ("0", "-2147483648", "0", "0"),
+        ("-2147483648", "1", "-2147483648", "0"),
+        ("-2147483648", "-1", "integer out of range", "0"),
+        ("-2147483648", "-1b", "2147483648b", "0b"),
+        ("-9223372036854775808b", "1", "-9223372036854775808b", "0b"),
+        ("-9223372036854775808b", "-1", "bigint out of range", "0b"),
+        ("-9223372036854775808b", "-1b", "bigint out of range", "0b"),
+        (
+            "9223372036854775807b",
+            "-9223372036854775808b",
+            "0b",
+            "9223372036854775807b",
+        ),
+        (
+            "-9223372036854775808b",
+            "9223372036854775807b",
+            "-1b",
+            "-1b",
+        ),
+        ("1", "0", "division by zero", "division by zero"),
+        ("0", "0b", "division by zero", "division by zero"),
+        (
+            "-9223372036854775808b",
+            "0",
+            "division by zero",
+            "division by zero",
+        ),
+        ("1b", "0b", "division by zero", "division by zero"),
     ] {
-        assert_eq!(rt; negate(&a), negated);
+        assert!(rt; gives(alloc, a, "/", b, quotient)?, "{a} / {b}");
+        assert!(rt; gives(alloc, a, "%", b, rest)?, "{a} % {b}");
+    }
+    Ok(())
+}
+
+#[test]
+fn negates_and_takes_nulls(rt: HostRuntime) -> Result<(), AllocError> {
+    let alloc = rt.alloc();
+    for (a, negated) in [
+        ("5", "-5"),
+        ("0", "0"),
+        ("2147483647", "-2147483647"),
+        ("-2147483648", "integer out of range"),
+        ("2147483648b", "-2147483648b"),
+        ("-2147483648b", "2147483648b"),
+        ("-9223372036854775808b", "bigint out of range"),
+        ("null", "null"),
+    ] {
+        let got = negate(&value(alloc, a)?);
+        assert!(rt; got == outcome(alloc, negated)?, "- {a}");
+    }
+    for (a, b) in [
+        ("null", "0"),
+        ("-2147483648", "null"),
+        ("null", "0b"),
+        ("9223372036854775807b", "null"),
+        ("null", "null"),
+    ] {
+        for op in ["+", "-", "*", "/", "%"] {
+            assert!(rt; gives(alloc, a, op, b, "null")?, "{a} {op} {b}");
+        }
+    }
+    Ok(())
+}
+
+fn order_of(a: &Value, b: &Value) -> &'static str {
+    match compare(a, b) {
+        Some(Ordering::Less) => "<",
+        Some(Ordering::Equal) => "=",
+        Some(Ordering::Greater) => ">",
+        None => "null",
     }
 }
 
 #[test]
 fn compares(rt: HostRuntime) -> Result<(), AllocError> {
     let alloc = rt.alloc();
-    for (a, b, order) in [
-        (Bool(false), Bool(true), Some(Less)),
-        (Value::Big(2147483648), Int(-1), Some(Greater)),
-        (Int(7), Value::Big(7), Some(Equal)),
-        (Null, Null, None),
-        (Null, Int(1), None),
-        (text(alloc, "a")?, text(alloc, "ab")?, Some(Less)),
-        (text(alloc, "Z")?, text(alloc, "a")?, Some(Less)),
-        (text(alloc, "")?, text(alloc, "")?, Some(Equal)),
+    for (a, order, b) in [
+        ("false", "<", "true"),
+        ("true", "=", "true"),
+        ("-2147483648", "<", "2147483647"),
+        ("0", ">", "-1"),
+        ("2147483648b", ">", "-1"),
+        ("-2147483648", ">", "-2147483649b"),
+        ("2147483647", "=", "2147483647b"),
+        ("-9223372036854775808b", "<", "9223372036854775807b"),
+        ("'a'", "<", "'ab'"),
+        ("'Z'", "<", "'a'"),
+        ("'a '", ">", "'a'"),
+        ("'10'", "<", "'9'"),
+        ("'~'", ">", "' ~'"),
+        ("''", "=", "''"),
+        ("null", "null", "null"),
+        ("null", "null", "false"),
+        ("1", "null", "null"),
+        ("null", "null", "1b"),
+        ("''", "null", "null"),
     ] {
-        assert_eq!(rt; compare(&a, &b), order);
+        let got = order_of(&value(alloc, a)?, &value(alloc, b)?);
+        assert!(rt; got == order, "{a} {order} {b}");
     }
     Ok(())
 }
@@ -117,6 +214,7 @@ fn combines_truths(rt: HostRuntime) {
     for (a, b, both, either) in [
         (Some(true), Some(true), Some(true), Some(true)),
         (Some(true), Some(false), Some(false), Some(true)),
+        (Some(false), Some(false), Some(false), Some(false)),
         (Some(true), None, None, Some(true)),
         (Some(false), None, Some(false), None),
         (None, None, None, None),
@@ -135,48 +233,69 @@ fn combines_truths(rt: HostRuntime) {
     }
 }
 
+/// A text of so many letters, at most 4,096.
+fn letters(alloc: Global, count: usize) -> Result<Value, AllocError> {
+    let bytes = [b'x'; 4096];
+    let (front, _) = bytes.split_at(count.min(4096));
+    Ok(Value::Text(Text::from_slice(alloc, front)?))
+}
+
 #[test]
-fn concatenates_and_fits(rt: HostRuntime) -> Result<(), AllocError> {
+fn concatenates(rt: HostRuntime) -> Result<(), AllocError> {
     let alloc = rt.alloc();
-    let longest = Value::Text(Text::from_slice(alloc, [b'x'; 4096].as_slice())?);
     for (a, b, whole) in [
-        (
-            text(alloc, "ab")?,
-            text(alloc, "c")?,
-            Ok(text(alloc, "abc")?),
-        ),
-        (text(alloc, "ab")?, Null, Ok(Null)),
-        (
-            copy_value(alloc, &longest)?,
-            text(alloc, "")?,
-            Ok(copy_value(alloc, &longest)?),
-        ),
-        (
-            text(alloc, "y")?,
-            copy_value(alloc, &longest)?,
-            Err(TextFault::TooLong),
-        ),
+        ("'ab'", "'c'", "'abc'"),
+        ("''", "' '", "' '"),
+        ("''", "''", "''"),
+        ("'ab'", "null", "null"),
+        ("null", "''", "null"),
+        ("null", "null", "null"),
     ] {
-        assert_eq!(rt; concat(alloc, &a, &b), whole);
+        let got = concat(alloc, &value(alloc, a)?, &value(alloc, b)?);
+        assert!(rt; got == Ok(value(alloc, whole)?), "{a} || {b}");
     }
-    for (value, kind, fitted) in [
-        (Int(INT_MIN), Kind::Big, Ok(Value::Big(-2147483648))),
-        (Value::Big(2147483647), Kind::Int, Ok(Int(INT_MAX))),
-        (
-            Value::Big(2147483648),
-            Kind::Int,
-            Err(NumberFault::IntRange),
-        ),
-        (
-            Value::Big(-2147483649),
-            Kind::Int,
-            Err(NumberFault::IntRange),
-        ),
-        (Null, Kind::Text, Ok(Null)),
-        (Bool(true), Kind::Bool, Ok(Bool(true))),
-        (text(alloc, "a")?, Kind::Text, Ok(text(alloc, "a")?)),
+    for (a, b, is_taken) in [
+        (4095, 1, true),
+        (1, 4095, true),
+        (4096, 0, true),
+        (4096, 1, false),
+        (1, 4096, false),
+        (4096, 4096, false),
     ] {
-        assert_eq!(rt; fit(value, kind), fitted);
+        let whole = concat(alloc, &letters(alloc, a)?, &letters(alloc, b)?);
+        let wanted = if is_taken {
+            Ok(letters(alloc, 4096)?)
+        } else {
+            Err(TextFault::TooLong)
+        };
+        assert!(rt; whole == wanted, "{a} and {b} letters");
+    }
+    assert_eq!(rt;
+        concat(alloc, &Value::Null, &letters(alloc, 4096)?),
+        Ok(Value::Null)
+    );
+    Ok(())
+}
+
+#[test]
+fn fits(rt: HostRuntime) -> Result<(), AllocError> {
+    let alloc = rt.alloc();
+    for (given, kind, fitted) in [
+        ("-2147483648", Kind::Int, "-2147483648"),
+        ("-2147483648", Kind::Big, "-2147483648b"),
+        ("2147483647b", Kind::Int, "2147483647"),
+        ("-2147483648b", Kind::Int, "-2147483648"),
+        ("2147483648b", Kind::Int, "integer out of range"),
+        ("-2147483649b", Kind::Int, "integer out of range"),
+        ("-9223372036854775808b", Kind::Int, "integer out of range"),
+        ("9223372036854775807b", Kind::Big, "9223372036854775807b"),
+        ("null", Kind::Text, "null"),
+        ("null", Kind::Int, "null"),
+        ("true", Kind::Bool, "true"),
+        ("''", Kind::Text, "''"),
+    ] {
+        let got = fit(value(alloc, given)?, kind);
+        assert!(rt; got == outcome(alloc, fitted)?, "{given}");
     }
     Ok(())
 }

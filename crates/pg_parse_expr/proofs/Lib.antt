@@ -1,0 +1,2 @@
+pub mod Unambiguous
+pub mod Spelled

@@ -1,0 +1,8 @@
+//! Expressions from tokens: the tree, or the first bad place.
+#![tactic(auto)]
+
+mod laws;
+mod tree;
+
+pub use laws::{at_most_one_tree, each_tree_is_spelled};
+pub use tree::{ExprTree, Node};
