@@ -4,3 +4,5 @@ pub mod Node
 pub mod Operators
 pub mod Grammar
 pub mod Behind
+pub mod Levels
+pub mod Rest

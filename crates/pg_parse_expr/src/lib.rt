@@ -1,6 +1,15 @@
 //! Expressions from tokens: the tree, or the first bad place.
 #![tactic(auto)]
 
-mod tree;
+mod front;
+mod leaf;
+mod level;
+mod parse;
 
+
+mod tree;
+mod whole;
+
+pub use parse::expr;
 pub use tree::{ExprTree, Node};
+pub use whole::{ParseFault, parse_expr};
