@@ -3,6 +3,9 @@ use Rattle.std.proofs.Common.{◌≡◌, ◌∷◌, ◌++◌, ◌+◌, ◌<◌, 
 use Rattle.pg_exprs.specs.declared.operator.BinaryOp.{BinaryOp}
 use Rattle.pg_grammar.specs.declared.fault.Fault.{Fault}
 use Rattle.pg_grammar.specs.declared.fault.Fault.TheVariants.{Syntax, Deep, Memory}
+use Rattle.std.specs.Prelude.{Result, Ok, Err, MatchResult}
+use Rattle.pg_grammar.specs.declared.part.Part.{Part}
+use Rattle.pg_grammar.specs.Parts.{seen}
 use Rattle.pg_grammar.specs.Limits.{Limit, nodes, most}
 use Rattle.pg_grammar.specs.Languages.{Lang, gives, one, bind, more, either, reaches, Took}
 use Rattle.pg_grammar.specs.Answers.{next, Lacks, Seen, read, failed, IsRead, Reads}
@@ -213,3 +216,10 @@ module _ (d : ℕ) where
   unfolding comparison
   comparison_read xs ys x o r s =
       (leads_bind (concatenation factor d) (compared factor d) behind_concatenation behind_comparison xs ys x r starts_compared).to o s
+
+-- what is read with the memory for its tree, or no memory for it
+pub joined_reads : (L : Lang Token Tree) (follows : Option Token → Bool) (xs : List Token) (r : Result (Part Token Tree) Fault) (tree : Tree) (zs : List Token) →
+    MatchResult r (λ p. (p.value ≡ tree) × (p.rest.now ≡ zs)) (λ e. e ≡ Memory) → Reads L follows xs (read tree zs) → Reads L follows xs (seen r)
+joined_reads L follows xs (Ok p) tree zs e r =
+    subst (λ v. Reads L follows xs (read v p.rest.now)) (sym e.0) (subst (λ z. Reads L follows xs (read tree z)) (sym e.1) r)
+joined_reads L follows xs (Err f) tree zs e r = subst (λ g. Reads L follows xs (failed g)) (sym e) (reads_memory L follows xs)
