@@ -7,3 +7,4 @@ pub mod Leaves
 pub mod Tests
 pub mod Factors
 pub mod Bracketing
+pub mod Wholes

@@ -6,3 +6,4 @@ pub mod Grammar
 pub mod Behind
 pub mod Levels
 pub mod Rest
+pub mod Places

@@ -1,4 +1,7 @@
 //! An expression among the tokens of a line, with places.
+ghost use Rattle.std.specs.Prelude.{◌≡◌, ◌≤◌, ◌<◌, ◌^◌, length};
+ghost use Rattle.pg_parse_expr.specs.Places.{place_of, placed as placed_fault, IsParsed};
+
 use crate::parse::expr;
 use crate::tree::ExprTree;
 use pg_grammar::Fault;
@@ -19,15 +22,19 @@ pub enum ParseFault {
 }
 
 /// The place of the first of the last `left` tokens, or of the line's end.
-fn place(spans: &[Span], end: u32, left: usize) -> u32 {
-    let (_, behind) = spans.split_at(spans.len() - left);
-    match behind.first() {
-        Some(span) => span.start,
+fn place(spans: &[Span], end: u32, left: usize) -> u32
+    ensures { result ≡ place_of spans.now end left }
+{
+    let (_, behind) = spans.split_at(spans.len().saturating_sub(left));
+    match behind.split_first() {
+        Some((span, _)) => span.start,
         None => end,
     }
 }
 
-fn placed(spans: &[Span], end: u32, fault: Fault) -> ParseFault {
+fn placed(spans: &[Span], end: u32, fault: Fault) -> ParseFault
+    ensures { result ≡ placed_fault spans.now end fault }
+{
     match fault {
         Fault::Syntax(left) => ParseFault::Syntax(place(spans, end, left)),
         Fault::Deep(left) => ParseFault::Depth(place(spans, end, left)),
@@ -43,10 +50,15 @@ pub fn parse_expr(
     tokens: &Tokens,
     from: u32,
     end: u32,
-) -> Result<(ExprTree, u32), ParseFault> {
-    let (_, behind) = tokens.tokens().split_at(from as usize);
+) -> Result<(ExprTree, u32), ParseFault>
+    requires start { from ≤ length tokens.now }
+    requires short { length tokens.now < 2 ^ 32 }
+    ensures { IsParsed tokens.now from end result }
+{
+    let all = tokens.tokens();
+    let (_, behind) = all.split_at(from as usize);
     match expr(alloc, behind, 0) {
-        Ok(part) => Ok((part.value, (tokens.tokens().len() - part.rest.len()) as u32)),
+        Ok(part) => Ok((part.value, (all.len() - part.rest.len()) as u32)),
         Err(fault) => Err(placed(tokens.spans(), end, fault)),
     }
 }

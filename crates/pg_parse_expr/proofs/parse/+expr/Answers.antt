@@ -121,10 +121,12 @@ distinct_from-returns-in-Err-clause-reads t c =
 pub factor-bracketed-requires : goal.factor-bracketed-requires
 factor-bracketed-requires t c =
     let o = opening_some c.args.tokens.now c.in-Some.inner.now c.in-Some.ensures in
-    ?
+    (first_of (omega (arith, o), grind (arith, o)), c.requires)
 
 pub factor-returns-then-depth-ge-MAX_DEPTH-clause-reads : goal.factor-returns-then-depth-ge-MAX_DEPTH-clause-reads
-factor-returns-then-depth-ge-MAX_DEPTH-clause-reads t c = ?
+factor-returns-then-depth-ge-MAX_DEPTH-clause-reads t c =
+    factor_deep c.args.depth (length c.args.tokens.now) c.args.tokens.now c.in-Some-accept_sign.rest.now c.in_default.ensures c.in-Some-accept_sign.ensures
+    c.if-depth-ge-MAX_DEPTH.true refl
 
 pub negation-returns-then-depth-ge-MAX_DEPTH-clause-reads : goal.negation-returns-then-depth-ge-MAX_DEPTH-clause-reads
 negation-returns-then-depth-ge-MAX_DEPTH-clause-reads t c =
@@ -163,7 +165,9 @@ test-returns-in-Some-clause-reads t c =
     (omega (arith, same, c.if-depth-height-ge-MAX_DEPTH.false)) c.requires.takes c.in-Some.ensures c.tested.ensures.reads
 
 pub tested-returns-in-Some-accept_word-2-clause-reads : goal.tested-returns-in-Some-accept_word-2-clause-reads
-tested-returns-in-Some-accept_word-2-clause-reads t c = ?
+tested-returns-in-Some-accept_word-2-clause-reads t c =
+    tested_distinct c.args.null c.args.distinct c.args.depth c.args.left c.args.tokens.now c.in-Some-accept_word.behind.now c.in-Some-accept_word-2.rest.now (seen c.distinct_from.result)
+    c.in-Some-accept_word.ensures c.in-Some-accept_word-2.ensures c.distinct_from.ensures.reads
 
 pub tests_behind-loop-behind-preserved : goal.tests_behind-loop-behind-preserved
 tests_behind-loop-behind-preserved t c = record {
