@@ -1,6 +1,8 @@
 -- From the reading of tokens to places in the line.
 use Rattle.std.proofs.Common.{◌≡◌, ◌++◌, ◌+◌, ◌-◌, ◌≤◌, ℕ, List, length, take, drop, map, refl, sym, ap, ◌∙◌, subst, arith, length-append, length-drop}
 use Rattle.std.specs.Prelude.{Ok, Err}
+use Rattle.std.proofs.Math.Seq.{drop-append_seam}
+use Rattle.std.proofs.lemmas.List.{drop-drop}
 use Rattle.pg_grammar.specs.declared.fault.Fault.{Fault}
 use Rattle.pg_grammar.specs.Answers.{read, failed, IsRead, Reads}
 use Rattle.pg_lexer.specs.declared.token.Span.{Span}
@@ -19,7 +21,7 @@ left_is all front rest from fits e =
     let l = ap length e ∙ length-append front rest in
     let d = length-drop from all in
     let at : length all - length rest ≡ from + length front = omega (arith, l, d, fits) in
-    rw at (split_drop all from (length front) ∙ (ap (λ xs. drop (length front) xs) e ∙ drop-front front rest))
+    rw at (sym (drop-drop (length front) from all) ∙ (ap (λ xs. drop (length front) xs) e ∙ drop-append_seam front rest))
 
 pub parsed_ok : (tokens : List Spanned) (from end behind : ℕ) (tree : Tree) (all rest : List Token) → all ≡ plain tokens → length all ≡ length tokens → from ≤ length all →
     Reads (expr_at 0) behind_expr (drop from all) (read tree rest) → behind ≡ length all - length rest → IsParsed tokens from end (Ok (tree, behind))

@@ -5,8 +5,8 @@ mod front;
 mod leaf;
 mod level;
 mod parse;
-
-
+#[cfg(test)]
+mod tests;
 mod tree;
 mod whole;
 

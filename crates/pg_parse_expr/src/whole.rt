@@ -45,6 +45,7 @@ fn placed(spans: &[Span], end: u32, fault: Fault) -> ParseFault
 
 /// The expression that begins at a token, and the number of the token behind it; tokens are counted
 /// from 0, and `end` is the place one past the line.
+#[tactic(auto, using(crate::proofs::Wholes::parsed_ok, crate::proofs::Wholes::parsed_err))]
 pub fn parse_expr(
     alloc: Global,
     tokens: &Tokens,
