@@ -1,8 +1,18 @@
 //! Expressions from tokens: the tree, or the first bad place.
 #![tactic(auto)]
 
+mod front;
 mod laws;
+mod leaf;
+mod level;
+mod parse;
 mod tree;
+mod whole;
 
 pub use laws::{at_most_one_tree, each_tree_is_spelled};
+pub use parse::expr;
 pub use tree::{ExprTree, Node};
+pub use whole::{ParseFault, parse_expr};
+
+#[cfg(test)]
+mod tests;
