@@ -1,2 +1,3 @@
 pub mod Unambiguous
 pub mod Spelled
+pub mod Within

@@ -4,5 +4,5 @@
 mod laws;
 mod tree;
 
-pub use laws::{at_most_one_tree, each_tree_is_spelled};
+pub use laws::{at_most_one_tree, each_tree_is_spelled, each_tree_is_within};
 pub use tree::{ExprTree, Node};
