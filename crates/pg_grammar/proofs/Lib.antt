@@ -2,6 +2,7 @@ pub mod Leading
 pub mod Fronting
 pub mod Words
 pub mod Agreeing
+pub mod Keeping
 pub mod Combining
 pub mod Knots
 pub mod Sentences

@@ -10,3 +10,4 @@ pub mod Bracketing
 pub mod Wholes
 pub mod Unambiguous
 pub mod Spelled
+pub mod Within

@@ -59,3 +59,9 @@ abbrev pub EachTreeIsSpelled : Type 0
 EachTreeIsSpelled =
     (tree : Tree) → is_written tree ≡ true → height tree ≤ 64 →
     (tokens : List Token) × (list_all is_token tokens ≡ true) × expr (λ k. 0) tokens tree []
+
+-- and what is read is a tree within the limits
+abbrev pub EachTreeIsWithin : Type 0
+EachTreeIsWithin =
+    (tokens : List Token) (tree : Tree) → list_all is_token tokens ≡ true → expr (λ k. 0) tokens tree [] →
+    (is_written tree ≡ true) × (height tree ≤ 64)
