@@ -1,11 +1,10 @@
 -- What may stand behind the parts of an expression.
-use Rattle.std.proofs.Common.{◌≡◌, ◌∷◌, ℕ, suc, Bool, true, false, not, ◌&&◌, List, Option, Some, None, ◌+◌, refl, sym, ap, ◌∙◌, subst, inl, inr, take}
+use Rattle.std.proofs.Common.{◌≡◌, ℕ, suc, Bool, true, false, not, List, Option, Some, ◌+◌, refl, ap}
 use Rattle.std.specs.Prelude.{is_some}
 use Rattle.std.proofs.lemmas.Bool.{and_parts, and_right, not_from_true}
 use Rattle.pg_exprs.specs.declared.operator.BinaryOp.{BinaryOp}
-use Rattle.pg_grammar.specs.Limits.{Limit, nodes}
-use Rattle.pg_grammar.specs.Languages.{Lang, gives, one, bind, more, token, reaches}
-use Rattle.pg_grammar.specs.Answers.{next}
+use Rattle.pg_grammar.specs.Limits.{nodes}
+use Rattle.pg_grammar.specs.Languages.{Lang, gives, one, bind, more}
 use Rattle.pg_grammar.proofs.Words.{Starts, Bars, starts_reaches, starts_bind, starts_one, starts_more}
 use Rattle.pg_lexer.specs.declared.keyword.Keyword.TheVariants as word
 use Rattle.pg_lexer.specs.declared.sign.Sign.TheVariants as sign
@@ -13,8 +12,8 @@ use Rattle.pg_lexer.specs.declared.token.Token.{Token}
 use Rattle.pg_lexer.specs.declared.token.Token.TheVariants as token
 use Rattle.pg_parse_expr.specs.declared.level.Level.{Level}
 use Rattle.pg_parse_expr.specs.declared.level.Level.TheVariants.{Or, And, Concat, Sum, Product}
-use Rattle.pg_parse_expr.specs.Behind.{has, behind_factor, behind_product, behind_sum, behind_concatenation, behind_comparison, behind_predicate, behind_conjunction, behind_expr}
-use Rattle.pg_parse_expr.specs.Grammar.{Rule, operation, chain}
+use Rattle.pg_parse_expr.specs.Behind.{has, behind_factor, behind_product, behind_sum, behind_concatenation, behind_comparison, behind_predicate, behind_conjunction}
+use Rattle.pg_parse_expr.specs.Grammar.{Rule, operation}
 use Rattle.pg_parse_expr.specs.Levels.{op_at, operand_at, before_at, behind_at, step_at}
 use Rattle.pg_parse_expr.specs.Operators.{or_op, and_op, compare_op, concat_op, sum_op, product_op}
 use Rattle.pg_parse_expr.specs.Tree.{Tree, height, binary}

@@ -1,15 +1,14 @@
 -- Brackets of any depth: count those that open, read what the innermost hold, and close one a turn.
-use Rattle.std.proofs.Common.{◌≡◌, ◌∷◌, ◌++◌, ◌+◌, ◌<◌, ◌≤◌, ℕ, zero, suc, Bool, true, false, List, [], length, replicate, Option, Some, None, refl, sym, ap, ◌∙◌, subst, inl, inr, arith}
-use Rattle.pg_exprs.specs.declared.operator.UnaryOp.TheVariants.{Negate, Not}
+use Rattle.std.proofs.Common.{◌≡◌, ◌∷◌, ◌++◌, ℕ, zero, suc, true, List, length, replicate, Some, None, refl, sym, ap, ◌∙◌, subst, inl, inr}
 use Rattle.pg_grammar.specs.declared.fault.Fault.{Fault}
-use Rattle.pg_grammar.specs.declared.fault.Fault.TheVariants.{Syntax, Deep}
-use Rattle.pg_grammar.specs.Limits.{Limit, nodes}
-use Rattle.pg_grammar.specs.Languages.{Lang, gives, one, bind, either, more, reaches, token, knot}
+use Rattle.pg_grammar.specs.declared.fault.Fault.TheVariants.{Syntax}
+use Rattle.pg_grammar.specs.Limits.{Limit}
+use Rattle.pg_grammar.specs.Languages.{Lang, gives, bind, either, more, token}
 use Rattle.pg_grammar.specs.Answers.{next, Lacks, Misses, Seen, read, failed, Reads}
 use Rattle.pg_grammar.proofs.Leading.{Leads, leads_on, leads_behind}
-use Rattle.pg_grammar.proofs.Words.{Starts, Bars, Spelled, spelled_gives, spelled_token, spelled_bind, spelled_more, bars_token, starts_gives, starts_bind, starts_token}
+use Rattle.pg_grammar.proofs.Words.{Starts, Bars, Spelled, spelled_gives, spelled_token, spelled_bind, spelled_more, bars_token, starts_bind, starts_token}
 use Rattle.pg_grammar.proofs.Combining.{reads_gives, reads_refused, reads_bind_failed, leads_bind, leads_token}
-use Rattle.pg_grammar.proofs.Knots.{Within, knot_opens, knot_closes}
+use Rattle.pg_grammar.proofs.Knots.{knot_opens, knot_closes}
 use Rattle.pg_lexer.specs.declared.keyword.Keyword.TheVariants as word
 use Rattle.pg_lexer.specs.declared.sign.Sign.TheVariants as sign
 use Rattle.pg_lexer.specs.declared.token.Token.{Token}
@@ -20,13 +19,13 @@ use Rattle.pg_parse_expr.specs.Grammar.{chain, product, sum, concatenation, comp
 use Rattle.pg_parse_expr.specs.Levels.{step_at, chain_at, behind_at, operand_at, before_at}
 use Rattle.pg_parse_expr.specs.Operators.{literal_of, name_of, or_op, and_op, compare_op, concat_op, sum_op, product_op}
 use Rattle.pg_parse_expr.specs.Rest.{behind_factor_at, behind_product_at, behind_sum_at, behind_concatenation_at, behind_comparison_at, behind_predicate_at, behind_conjunction_at, closings, closed}
-use Rattle.pg_parse_expr.specs.Tree.{Tree, unary}
+use Rattle.pg_parse_expr.specs.Tree.{Tree}
 use Rattle.pg_parse_expr.proofs.After.{any, starts_steps}
 use Rattle.pg_parse_expr.proofs.Growth.{rises_factor, rises_not}
 use Rattle.pg_parse_expr.proofs.Leaves.{bars_leaf}
 use Rattle.pg_parse_expr.proofs.Steps.{starts_compared}
-use Rattle.pg_parse_expr.proofs.Tests.{starts_tests}
-use Rattle.pg_parse_expr.proofs.Spelling.{spelled_compared, spelled_disjunction}
+use Rattle.pg_parse_expr.proofs.Testing.{starts_tests}
+use Rattle.pg_parse_expr.proofs.Spelling.{spelled_compared}
 
 no_literal : (xs : List Token) → next xs ≡ Some (t.Sign sign.Open) → Lacks literal_of xs
 unfolding literal_of

@@ -1,29 +1,25 @@
 -- Leaves, minus signs and brackets of any depth.
-use Rattle.std.proofs.Common.{◌≡◌, ◌∷◌, ◌++◌, ◌+◌, ◌<◌, ◌≤◌, ℕ, zero, suc, Bool, true, false, List, [], length, replicate, Option, Some, None, refl, sym, ap, ◌∙◌, subst, inl, inr, arith}
-use Rattle.pg_exprs.specs.declared.operator.UnaryOp.TheVariants.{Negate, Not}
+use Rattle.std.proofs.Common.{◌≡◌, ◌∷◌, ◌<◌, ◌≤◌, ℕ, suc, List, length, Some, None, sym, ap, ◌∙◌, subst, arith}
+use Rattle.pg_exprs.specs.declared.operator.UnaryOp.TheVariants.{Negate}
 use Rattle.pg_grammar.specs.declared.fault.Fault.{Fault}
-use Rattle.pg_grammar.specs.declared.fault.Fault.TheVariants.{Syntax, Deep}
-use Rattle.pg_grammar.specs.Limits.{Limit, nodes}
-use Rattle.pg_grammar.specs.Languages.{Lang, gives, one, bind, either, more, reaches, token, knot}
+use Rattle.pg_grammar.specs.declared.fault.Fault.TheVariants.{Deep}
+use Rattle.pg_grammar.specs.Limits.{nodes}
+use Rattle.pg_grammar.specs.Languages.{Lang, gives, bind, either, reaches, token}
 use Rattle.pg_grammar.specs.Answers.{next, Lacks, Misses, Seen, read, failed, Reads}
-use Rattle.pg_grammar.proofs.Leading.{Leads, leads_on, leads_behind}
-use Rattle.pg_grammar.proofs.Words.{Starts, Bars, Spelled, spelled_gives, spelled_token, spelled_bind, spelled_more, begun_token, bars_reaches, bars_token, starts_gives, starts_bind, starts_token}
-use Rattle.pg_grammar.proofs.Combining.{reads_gives, reads_refused, reads_over, reads_bind_failed, leads_reaches, leads_bind, leads_token, leads_left, leads_right}
+use Rattle.pg_grammar.proofs.Leading.{Leads, leads_on}
+use Rattle.pg_grammar.proofs.Words.{Spelled, spelled_gives, spelled_bind, begun_token, bars_reaches, bars_token, starts_gives}
+use Rattle.pg_grammar.proofs.Combining.{reads_gives, reads_over, reads_bind_failed, leads_reaches, leads_bind, leads_token, leads_left, leads_right}
 use Rattle.pg_grammar.proofs.Knots.{leads_knot}
-use Rattle.pg_lexer.specs.declared.keyword.Keyword.TheVariants as word
 use Rattle.pg_lexer.specs.declared.sign.Sign.TheVariants as sign
 use Rattle.pg_lexer.specs.declared.token.Token.{Token}
 use Rattle.pg_lexer.specs.declared.token.Token.TheVariants as t
-use Rattle.pg_lexer.specs.Keywords.{may_be_name}
-use Rattle.pg_parse_expr.specs.Behind.{behind_factor, behind_expr}
-use Rattle.pg_parse_expr.specs.Grammar.{chain, product, sum, concatenation, compared, comparison, test, predicate, negation_over, negation, conjunction, disjunction, named, called, leaf, minus, bracket, factor_over, factor, expr_at}
-use Rattle.pg_parse_expr.specs.Levels.{step_at}
-use Rattle.pg_parse_expr.specs.Operators.{literal_of, name_of, action_name}
+use Rattle.pg_parse_expr.specs.Behind.{behind_factor}
+use Rattle.pg_parse_expr.specs.Grammar.{disjunction, leaf, minus, bracket, factor_over, factor}
+use Rattle.pg_parse_expr.specs.Operators.{literal_of, name_of}
 use Rattle.pg_parse_expr.specs.Tree.{Tree, unary}
-use Rattle.pg_parse_expr.proofs.After.{any, starts_any}
-use Rattle.pg_parse_expr.proofs.Growth.{rises_factor, rises_not}
+use Rattle.pg_parse_expr.proofs.Growth.{rises_factor}
 use Rattle.pg_parse_expr.proofs.Leaves.{bars_leaf}
-use Rattle.pg_parse_expr.proofs.Spelling.{spelled_factor, spelled_disjunction}
+use Rattle.pg_parse_expr.proofs.Spelling.{spelled_factor}
 
 minus_lacks_literal : (xs ys : List Token) → xs ≡ t.Sign sign.Minus ∷ ys → Lacks literal_of xs
 unfolding literal_of

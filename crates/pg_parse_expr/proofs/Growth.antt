@@ -1,12 +1,12 @@
 -- The rules grow with what a factor is, so that a factor is what its rule makes of factors; NOT likewise.
-use Rattle.std.proofs.Common.{◌≡◌, ◌+◌, ℕ, zero, suc, Option}
+use Rattle.std.proofs.Common.{◌+◌, ℕ, zero, suc, Option}
 use Rattle.pg_exprs.specs.declared.operator.BinaryOp.{BinaryOp}
 use Rattle.pg_exprs.specs.declared.operator.BinaryOp.TheVariants.{IsDistinctFrom, IsNotDistinctFrom}
 use Rattle.pg_exprs.specs.declared.operator.UnaryOp.{UnaryOp}
 use Rattle.pg_exprs.specs.declared.operator.UnaryOp.TheVariants.{Negate, Not, IsNull, IsNotNull}
-use Rattle.pg_grammar.specs.Limits.{Limit, nodes}
-use Rattle.pg_grammar.specs.Languages.{Lang, gives, token, one, bind, either, more, tie, knot, reaches}
-use Rattle.pg_grammar.proofs.Knots.{Within, Grows, grows_same, grows_back, grows_token, grows_bind, grows_either, grows_more, grows_reaches}
+use Rattle.pg_grammar.specs.Limits.{nodes}
+use Rattle.pg_grammar.specs.Languages.{gives, token, one, bind, either, more, tie, reaches}
+use Rattle.pg_grammar.proofs.Knots.{Grows, grows_same, grows_back, grows_token, grows_bind, grows_either, grows_more, grows_reaches}
 use Rattle.pg_lexer.specs.declared.keyword.Keyword.TheVariants as word
 use Rattle.pg_lexer.specs.declared.sign.Sign.TheVariants as sign
 use Rattle.pg_lexer.specs.declared.token.Token.{Token}

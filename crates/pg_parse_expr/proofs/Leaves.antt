@@ -1,12 +1,12 @@
 -- Literals, columns and `merge_action()`.
-use Rattle.std.proofs.Common.{◌≡◌, ◌≢◌, ◌⊎◌, ◌∷◌, ◌++◌, ◌+◌, ◌<◌, ◌≤◌, ℕ, zero, suc, Bool, true, false, List, [], length, take, Option, Some, None, refl, sym, ap, ◌∙◌, subst, inl, inr, arith}
+use Rattle.std.proofs.Common.{◌≡◌, ◌≢◌, ◌⊎◌, ◌∷◌, ◌<◌, ◌≤◌, ℕ, suc, Bool, true, false, List, [], length, Option, Some, None, refl, sym, ap, ◌∙◌, subst, inl, inr, arith}
 use Rattle.pg_grammar.specs.declared.fault.Fault.TheVariants.{Syntax, Deep}
-use Rattle.pg_grammar.specs.Limits.{Limit, nodes}
-use Rattle.pg_grammar.specs.Languages.{Lang, gives, one, bind, either, reaches, token, Took}
+use Rattle.pg_grammar.specs.Limits.{nodes}
+use Rattle.pg_grammar.specs.Languages.{Lang, gives, one, bind, either, token, Took}
 use Rattle.pg_grammar.specs.Answers.{next, Lacks, Misses, Seen, read, failed, Reads}
 use Rattle.pg_grammar.proofs.Leading.{Leads, leads_on}
-use Rattle.pg_grammar.proofs.Words.{Starts, Bars, Spelled, Begun, spelled_gives, spelled_right, spelled_token, spelled_one, spelled_bind, begun_left, begun_right, begun_bind, begun_one, bars_reaches, bars_bind, bars_one, bars_one_next, bars_gives, bars_token, bars_either, starts_gives}
-use Rattle.pg_grammar.proofs.Combining.{reads_gives, reads_one, reads_refused, reads_over, leads_reaches, leads_one, leads_bind, leads_token, leads_left, leads_right, leads_left_by, leads_right_by}
+use Rattle.pg_grammar.proofs.Words.{Bars, Begun, spelled_gives, spelled_right, spelled_token, spelled_one, spelled_bind, begun_left, begun_right, begun_bind, begun_one, bars_reaches, bars_bind, bars_one, bars_one_next, bars_gives, bars_token, bars_either}
+use Rattle.pg_grammar.proofs.Combining.{reads_gives, reads_one, reads_refused, reads_over, leads_reaches, leads_one, leads_token, leads_left, leads_right, leads_left_by, leads_right_by}
 use Rattle.std.specs.Prelude.{if◌then◌else◌}
 use Rattle.std.specs.Str.{bytes_eq}
 use Rattle.std.proofs.lemmas.Bool.{both_ways, false≢true}
@@ -163,10 +163,10 @@ leads_named xs ys name l not_called =
     bars (inr other) =
         bars_token behind_factor action_name (token (t.Sign sign.Open) (token (t.Sign sign.Close) (gives action))) 1 xs
         (λ e.
-            let f : Some l.head ≡ Some action_name = sym (ap next l.is) ∙ e in
-            let same : l.head ≡ action_name = cc f in
-            let h : Some name ≡ Some merge_action = sym l.value ∙ (ap name_of same ∙ name_action) in
-            other (cc h))
+        let f : Some l.head ≡ Some action_name = sym (ap next l.is) ∙ e in
+        let same : l.head ≡ action_name = cc f in
+        let h : Some name ≡ Some merge_action = sym l.value ∙ (ap name_of same ∙ name_action) in
+        other (cc h))
 
 dot_no_open : (ys zs : List Token) → ys ≡ t.Sign sign.Dot ∷ zs → Misses (t.Sign sign.Open) ys
 dot_no_open ys zs e = record { misses = λ n. let h : Some (t.Sign sign.Dot) ≡ Some (t.Sign sign.Open) = sym (ap next e) ∙ n in cc h }

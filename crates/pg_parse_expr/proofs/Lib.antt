@@ -4,7 +4,7 @@ pub mod Steps
 pub mod Weights
 pub mod Growth
 pub mod Leaves
-pub mod Tests
+pub mod Testing
 pub mod Factors
 pub mod Bracketing
 pub mod Wholes

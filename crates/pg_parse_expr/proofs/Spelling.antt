@@ -1,8 +1,8 @@
 -- Each rule has words.
-use Rattle.std.proofs.Common.{◌≡◌, ◌∷◌, ◌+◌, ℕ, suc, List, Option, Some, None, refl}
+use Rattle.std.proofs.Common.{ℕ, suc, Option, refl}
 use Rattle.pg_exprs.specs.declared.operator.BinaryOp.{BinaryOp}
 use Rattle.pg_grammar.specs.Limits.{nodes}
-use Rattle.pg_grammar.specs.Languages.{Lang, gives, one, bind, more, either, token as behind_token, reaches}
+use Rattle.pg_grammar.specs.Languages.{gives, one, bind, more, either, token as behind_token, reaches}
 use Rattle.pg_grammar.proofs.Words.{Spelled, spelled_gives, spelled_one, spelled_bind, spelled_left, spelled_right, spelled_more, spelled_reaches, spelled_knot}
 use Rattle.pg_lexer.specs.declared.keyword.Keyword.TheVariants as word
 use Rattle.pg_lexer.specs.declared.token.Token.{Token}
@@ -12,9 +12,9 @@ use Rattle.pg_exprs.specs.declared.operator.UnaryOp.TheVariants.{Not}
 use Rattle.pg_parse_expr.specs.declared.level.Level.{Level}
 use Rattle.pg_parse_expr.specs.declared.level.Level.TheVariants.{Or, And, Concat, Sum, Product}
 use Rattle.pg_parse_expr.specs.Grammar.{Rule, operation, chain, product, sum, concatenation, compared, comparison, test, predicate, negation_over, negation, conjunction, disjunction, named, called, leaf, minus, bracket, factor_over, factor}
-use Rattle.pg_parse_expr.specs.Levels.{op_at, operand_at, chain_at, step_at}
+use Rattle.pg_parse_expr.specs.Levels.{operand_at}
 use Rattle.pg_parse_expr.specs.Operators.{literal_of, or_op, and_op, compare_op, concat_op, sum_op, product_op}
-use Rattle.pg_parse_expr.specs.Tree.{Tree, height, literal, unary}
+use Rattle.pg_parse_expr.specs.Tree.{Tree, literal, unary}
 
 pub spelled_leaf : (d : ℕ) → Spelled (leaf d)
 unfolding leaf literal_of

@@ -1,16 +1,16 @@
 -- One operator with its right operand, and chains of them.
-use Rattle.std.proofs.Common.{◌≡◌, ◌∷◌, ◌++◌, ◌+◌, ◌<◌, ◌≤◌, ℕ, zero, suc, Bool, true, false, List, [], length, Option, Some, None, refl, sym, ap, ◌∙◌, subst, inl, inr, arith, length-append}
+use Rattle.std.proofs.Common.{◌≡◌, ◌∷◌, ◌++◌, ◌+◌, ◌<◌, ◌≤◌, ℕ, suc, Bool, false, List, [], length, Option, refl, sym, ap, ◌∙◌, subst, arith, length-append}
 use Rattle.pg_exprs.specs.declared.operator.BinaryOp.{BinaryOp}
 use Rattle.pg_grammar.specs.declared.fault.Fault.{Fault}
-use Rattle.pg_grammar.specs.declared.fault.Fault.TheVariants.{Syntax, Deep, Memory}
+use Rattle.pg_grammar.specs.declared.fault.Fault.TheVariants.{Deep, Memory}
 use Rattle.std.specs.Prelude.{Result, Ok, Err, MatchResult}
 use Rattle.pg_grammar.specs.declared.part.Part.{Part}
 use Rattle.pg_grammar.specs.Parts.{seen}
-use Rattle.pg_grammar.specs.Limits.{Limit, nodes, most}
-use Rattle.pg_grammar.specs.Languages.{Lang, gives, one, bind, more, either, reaches, Took}
+use Rattle.pg_grammar.specs.Limits.{Limit, nodes}
+use Rattle.pg_grammar.specs.Languages.{Lang, gives, one, bind, more, Took}
 use Rattle.pg_grammar.specs.Answers.{next, Lacks, Seen, read, failed, IsRead, Reads}
 use Rattle.pg_grammar.proofs.Leading.{Leads, leads_on, reads_narrow}
-use Rattle.pg_grammar.proofs.Words.{Starts, Bars, Spelled, Begun, starts_gives, starts_either, spelled_gives, spelled_bind, spelled_more, begun_bind, begun_one, bars_reaches, bars_bind, bars_one, bars_gives}
+use Rattle.pg_grammar.proofs.Words.{Starts, Bars, Spelled, starts_gives, starts_either, spelled_gives, spelled_bind, spelled_more, begun_bind, begun_one, bars_reaches, bars_bind, bars_one, bars_gives}
 use Rattle.pg_grammar.proofs.Combining.{reads_gives, reads_over, leads_reaches, leads_one, leads_bind, reads_bind_failed, leads_more, leads_no_more, leads_left, leads_right}
 use Rattle.pg_lexer.specs.declared.token.Token.{Token}
 use Rattle.pg_parse_expr.specs.declared.level.Level.{Level}
@@ -19,7 +19,7 @@ use Rattle.pg_parse_expr.specs.Grammar.{Rule, operation, chain, concatenation, c
 use Rattle.pg_parse_expr.specs.Levels.{op_at, operand_at, before_at, behind_at, step_at, chain_at}
 use Rattle.pg_parse_expr.specs.Operators.{compare_op}
 use Rattle.pg_parse_expr.specs.Tree.{Tree, height, binary}
-use Rattle.pg_parse_expr.proofs.After.{any, starts_any, bars_any, starts_operation, starts_step, starts_steps, op_not_behind, compare_before, compare_not_behind, comparison_before}
+use Rattle.pg_parse_expr.proofs.After.{any, starts_any, starts_operation, starts_steps, op_not_behind, compare_before, compare_not_behind, comparison_before}
 use Rattle.pg_parse_expr.proofs.Spelling.{spelled_operand, spelled_concatenation, spelled_compared}
 
 pub reads_memory : {V : Type 0} (L : Lang Token V) (follows : Option Token → Bool) (xs : List Token) → Reads L follows xs (failed Memory)

@@ -1,5 +1,5 @@
 -- From the reading of tokens to places in the line.
-use Rattle.std.proofs.Common.{◌≡◌, ◌++◌, ◌+◌, ◌-◌, ◌≤◌, ℕ, List, length, take, drop, map, refl, sym, ap, ◌∙◌, subst, arith, length-append, length-drop}
+use Rattle.std.proofs.Common.{◌≡◌, ◌++◌, ◌+◌, ◌-◌, ◌≤◌, ℕ, List, length, drop, map, sym, ap, ◌∙◌, subst, arith, length-append, length-drop}
 use Rattle.std.specs.Prelude.{Ok, Err}
 use Rattle.std.proofs.Math.Seq.{drop-append_seam}
 use Rattle.std.proofs.lemmas.List.{drop-drop}
@@ -34,7 +34,7 @@ parsed_ok tokens from end behind tree all rest e n fits r b =
       omega (arith, l, d, b, n, fits),
       omega (arith, l, d, b, n, fits),
       subst (λ xs. Reads (expr_at 0) behind_expr (drop from xs) (read tree (drop behind xs))) e
-      (subst (λ z. Reads (expr_at 0) behind_expr (drop from all) (read tree z)) (sym same) r),
+          (subst (λ z. Reads (expr_at 0) behind_expr (drop from all) (read tree z)) (sym same) r),
     )
 
 pub parsed_err : (tokens : List Spanned) (from end : ℕ) (all : List Token) (spans : List Span) (f : Fault) (e : ParseFault) → all ≡ plain tokens → spans ≡ map span_of tokens →

@@ -1,7 +1,6 @@
 -- What one token stands for in an expression.
-use Rattle.std.specs.Prelude.{ℕ, Bool, true, false, List, Option, Some, None, if◌then◌else◌, nat_le, codes, is_some}
+use Rattle.std.specs.Prelude.{ℕ, true, false, List, Option, Some, None, if◌then◌else◌, nat_le, codes}
 use Rattle.std.specs.Prelude.{pos}
-use Rattle.std.specs.Str.{bytes_eq}
 use Rattle.pg_values.specs.declared.value.Value.{Value}
 use Rattle.pg_values.specs.declared.value.Value.TheVariants as value
 use Rattle.pg_exprs.specs.declared.operator.Arithmetic.TheVariants as arithmetic

@@ -59,11 +59,7 @@ fn named<'a>(alloc: Global, tokens: &'a [Token], depth: u32) -> Read<'a>
 }
 
 /// What a name begins.
-fn behind_name<'a>(
-    alloc: Global,
-    tokens: &'a [Token],
-    first: Part<'a, Token, NameText>,
-) -> Read<'a>
+fn behind_name<'a>(alloc: Global, tokens: &'a [Token], first: Part<'a, Token, NameText>) -> Read<'a>
     requires { Took name_of tokens.now first.value first.rest.now }
     ensures reads { Reads (either called_rule named_rule) behind_factor tokens.now (seen result) }
     ensures low { IfOk result (λ p. height p.value ≡ 1) }

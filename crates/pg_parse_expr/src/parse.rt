@@ -161,11 +161,7 @@ fn comparison<'a>(alloc: Global, tokens: &'a [Token], depth: u32) -> Read<'a>
 /// At most one comparison behind a tree.
 #[cycle(expr)]
 #[tactic(auto, using(crate::proofs::Steps::compared_some, crate::proofs::Steps::compared_none))]
-fn comparison_behind<'a>(
-    alloc: Global,
-    left: Part<'a, Token, ExprTree>,
-    depth: u32,
-) -> Read<'a>
+fn comparison_behind<'a>(alloc: Global, left: Part<'a, Token, ExprTree>, depth: u32) -> Read<'a>
     requires { depth + height left.value ≤ 64 }
     ensures reads { Reads (compared_rule factor_rule depth left.entry.value) behind_comparison left.entry.rest.now (seen result) }
     ensures low { IfOk result (λ p. depth + height p.value ≤ 64) }
@@ -203,7 +199,7 @@ fn compared<'a>(
 
 /// A comparison with its tests.
 #[cycle(expr)]
-#[tactic(auto, using(crate::proofs::Tests::predicate_failed, crate::proofs::Tests::predicate_read))]
+#[tactic(auto, using(crate::proofs::Testing::predicate_failed, crate::proofs::Testing::predicate_read))]
 fn predicate<'a>(alloc: Global, tokens: &'a [Token], depth: u32) -> Read<'a>
     requires { depth ≤ 64 }
     ensures reads { Reads (predicate_rule factor_rule depth) (behind_predicate) tokens.now (seen result) }
@@ -217,12 +213,8 @@ fn predicate<'a>(alloc: Global, tokens: &'a [Token], depth: u32) -> Read<'a>
 
 /// The tests behind a tree.
 #[cycle(expr)]
-#[tactic(auto, using(crate::proofs::Tests::tests_turn, crate::proofs::Tests::tests_turn_failed, crate::proofs::Tests::tests_end, crate::proofs::Tests::test_shorter, crate::proofs::Steps::leads_here))]
-fn tests_behind<'a>(
-    alloc: Global,
-    first: Part<'a, Token, ExprTree>,
-    depth: u32,
-) -> Read<'a>
+#[tactic(auto, using(crate::proofs::Testing::tests_turn, crate::proofs::Testing::tests_turn_failed, crate::proofs::Testing::tests_end, crate::proofs::Testing::test_shorter, crate::proofs::Steps::leads_here))]
+fn tests_behind<'a>(alloc: Global, first: Part<'a, Token, ExprTree>, depth: u32) -> Read<'a>
     requires { depth + height first.value ≤ 64 }
     ensures reads { Reads (more (test_rule factor_rule depth) first.entry.value) behind_predicate first.entry.rest.now (seen result) }
     ensures low { IfOk result (λ p. depth + height p.value ≤ 64) }
@@ -245,7 +237,7 @@ fn tests_behind<'a>(
 
 /// One test behind a tree; its IS is read.
 #[cycle(expr)]
-#[tactic(auto, using(crate::proofs::Tests::test_deep, crate::proofs::Tests::test_not, crate::proofs::Tests::test_plain))]
+#[tactic(auto, using(crate::proofs::Testing::test_deep, crate::proofs::Testing::test_not, crate::proofs::Testing::test_plain))]
 fn test<'a>(
     alloc: Global,
     left: ExprTree,
@@ -283,7 +275,7 @@ fn test<'a>(
 
 /// NULL, or DISTINCT FROM and an operand.
 #[cycle(expr)]
-#[tactic(auto, using(crate::proofs::Tests::tested_null, crate::proofs::Tests::tested_refused, crate::proofs::Tests::tested_no_from, crate::proofs::Tests::tested_distinct, crate::proofs::Steps::reads_memory))]
+#[tactic(auto, using(crate::proofs::Testing::tested_null, crate::proofs::Testing::tested_refused, crate::proofs::Testing::tested_no_from, crate::proofs::Testing::tested_distinct, crate::proofs::Steps::reads_memory))]
 fn tested<'a>(
     alloc: Global,
     null: UnaryOp,
@@ -312,7 +304,7 @@ fn tested<'a>(
 
 /// The right operand of DISTINCT FROM.
 #[cycle(expr)]
-#[tactic(auto, using(crate::proofs::Bracketing::chain_concat, crate::proofs::Tests::distinct_failed, crate::proofs::Tests::distinct_read, crate::proofs::Steps::reads_memory, crate::proofs::Weights::rank_small, crate::proofs::Weights::opening_small))]
+#[tactic(auto, using(crate::proofs::Bracketing::chain_concat, crate::proofs::Testing::distinct_failed, crate::proofs::Testing::distinct_read, crate::proofs::Steps::reads_memory, crate::proofs::Weights::rank_small, crate::proofs::Weights::opening_small))]
 fn distinct_from<'a>(
     alloc: Global,
     distinct: BinaryOp,
@@ -332,7 +324,7 @@ fn distinct_from<'a>(
 
 /// NOT, any number of times, before a predicate.
 #[cycle(expr)]
-#[tactic(auto, using(crate::proofs::Tests::negation_plain, crate::proofs::Tests::negation_deep, crate::proofs::Tests::negation_failed, crate::proofs::Tests::negation_read, crate::proofs::Steps::reads_memory, crate::proofs::Weights::rank_small, crate::proofs::Weights::opening_small))]
+#[tactic(auto, using(crate::proofs::Testing::negation_plain, crate::proofs::Testing::negation_deep, crate::proofs::Testing::negation_failed, crate::proofs::Testing::negation_read, crate::proofs::Steps::reads_memory, crate::proofs::Weights::rank_small, crate::proofs::Weights::opening_small))]
 fn negation<'a>(alloc: Global, tokens: &'a [Token], depth: u32) -> Read<'a>
     requires { depth ≤ 64 }
     ensures reads { Reads (negation_rule factor_rule depth) behind_predicate tokens.now (seen result) }
@@ -418,12 +410,7 @@ fn bracketed<'a>(alloc: Global, tokens: &'a [Token], depth: u32) -> Read<'a>
 /// The bracket that closes behind a whole, and behind it what `count` brackets more hold.
 #[cycle(expr)]
 #[tactic(auto, using(crate::proofs::Bracketing::closed_refused, crate::proofs::Bracketing::closed_last, crate::proofs::Bracketing::closed_turn, crate::proofs::Bracketing::closed_failed, crate::proofs::Steps::leads_here))]
-fn closed<'a>(
-    alloc: Global,
-    count: usize,
-    first: Part<'a, Token, ExprTree>,
-    depth: u32,
-) -> Read<'a>
+fn closed<'a>(alloc: Global, count: usize, first: Part<'a, Token, ExprTree>, depth: u32) -> Read<'a>
     requires { depth + height first.value ≤ 64 }
     ensures reads { Reads (closed_rule depth count first.entry.value) behind_factor first.entry.rest.now (seen result) }
     ensures low { IfOk result (λ p. depth + height p.value ≤ 64) }
@@ -537,11 +524,7 @@ fn behind_predicate<'a>(alloc: Global, first: Part<'a, Token, ExprTree>, depth: 
 /// The rest of an expression whose first conjunction is read.
 #[cycle(expr)]
 #[tactic(auto, using(crate::proofs::Bracketing::conjunction_at))]
-fn behind_conjunction<'a>(
-    alloc: Global,
-    first: Part<'a, Token, ExprTree>,
-    depth: u32,
-) -> Read<'a>
+fn behind_conjunction<'a>(alloc: Global, first: Part<'a, Token, ExprTree>, depth: u32) -> Read<'a>
     requires { depth + height first.value ≤ 64 }
     ensures reads { Reads (behind_conjunction_at depth first.entry.value) behind_expr first.entry.rest.now (seen result) }
     ensures low { IfOk result (λ p. depth + height p.value ≤ 64) }

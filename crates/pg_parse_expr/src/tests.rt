@@ -77,8 +77,17 @@ fn print(text: &mut Vec<u8>, tree: &ExprTree) -> Result<(), AllocError> {
     }
 }
 
+/// The most bytes of a line.
+const MAX_LINE: usize = 1048576;
+
 fn parsed(alloc: Global, line: &[u8]) -> Result<Result<(Vec<u8>, u32), ParseFault>, AllocError> {
+    if line.len() > MAX_LINE {
+        return Ok(Err(ParseFault::Memory));
+    }
     let lexed = read_front(alloc, line, 1)?;
+    if lexed.tokens.spans().len() > MAX_LINE {
+        return Ok(Err(ParseFault::Memory));
+    }
     Ok(match parse_expr(alloc, &lexed.tokens, 0, lexed.end) {
         Ok((tree, next)) => {
             let mut text = Vec::new(alloc);
@@ -103,14 +112,21 @@ fn trees_group_as_written(rt: HostRuntime) -> Result<(), AllocError> {
         ("((a)) - (NOT (b = c))", "(- a (not (= b c)))", 14),
         ("((((a = b)) OR c))", "(or (= a b) c)", 13),
         ("t.key.x", "t.key", 3),
-        ("merge_action() = merge_action.merge_action", "(= action() merge_action.merge_action)", 7),
+        (
+            "merge_action() = merge_action.merge_action",
+            "(= action() merge_action.merge_action)",
+            7,
+        ),
         ("merge_action, x", "merge_action", 1),
         ("2147483647 + 2147483648", "(+ int big)", 3),
         ("a = b = c", "(= a b)", 3),
         ("a b", "a", 1),
     ] {
         let got = parsed(rt.alloc(), line.as_bytes())?;
-        assert!(rt; got.is_ok_and(|(text, at)| text.as_slice() == want.as_bytes() && at == next), "{line}");
+        assert!(rt;
+            got.is_ok_and(|(text, at)| text.as_slice() == want.as_bytes() && at == next),
+            "{line}"
+        );
     }
     Ok(())
 }

@@ -2,7 +2,6 @@
 use Rattle.std.proofs.Common.{rules, ◌≡◌, sym, ap, ◌∙◌}
 use denote.Enum.Bare.{same_true, true_same}
 use Rattle.pg_lexer.specs.contracts.keyword.Keyword.{the_type}
-use Rattle.pg_lexer.specs.declared.keyword.Keyword.{Keyword}
 use Rattle.pg_lexer.specs.declared.token.Token.TheVariants.{Keyword as word_token}
 use Rattle.pg_parse_expr.proofs.front.is_word.Goals as goal
 

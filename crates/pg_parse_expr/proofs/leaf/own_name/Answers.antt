@@ -1,4 +1,4 @@
-use Rattle.std.proofs.Common.{◌≡◌, length, refl}
+use Rattle.std.proofs.Common.{length, refl}
 use Rattle.pg_parse_expr.proofs.Leaves.{named_own, named_dot_refused}
 use Rattle.pg_parse_expr.proofs.leaf.own_name.Goals as goal
 

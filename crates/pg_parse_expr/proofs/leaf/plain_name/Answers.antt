@@ -24,4 +24,4 @@ returns-then-is_action-clause-reads c =
 pub returns-clause-reads : goal.returns-clause-reads
 returns-clause-reads c =
     named_other c.args.tokens.now c.args.first.rest.now c.args.first.value c.column-else-is_action.result c.requires.takes c.requires.no_dot
-    (λ e. false≢true (sym c.if-is_action.false ∙ c.is_action.ensures.1 (cc (e, c.value.view_is)))) (cc (c.column-else-is_action.ensures, c.value.view_is))
+    (λ e. false≢true (sym c.if-is_action.false ∙ c.is_action.ensures.1 (cc (e, c.value.view_is)))) c.column-else-is_action.ensures

@@ -1,6 +1,5 @@
-use Rattle.std.proofs.Common.{◌≡◌, ◌+◌, ◌-◌, ◌<◌, ◌≤◌, suc, length, refl, sym, ap, ◌∙◌, arith}
-use Rattle.pg_exprs.specs.declared.operator.UnaryOp.TheVariants.{Negate, Not}
-use Rattle.pg_grammar.specs.declared.fault.Fault.TheVariants.{Syntax, Deep, Memory}
+use Rattle.std.proofs.Common.{◌≡◌, ◌+◌, ◌-◌, length, refl, arith}
+use Rattle.pg_grammar.specs.declared.fault.Fault.TheVariants.{Syntax}
 use Rattle.pg_grammar.specs.Answers.{read, failed}
 use Rattle.pg_grammar.specs.Parts.{seen}
 use Rattle.pg_grammar.proofs.Leading.{leads_on}
@@ -13,7 +12,7 @@ use Rattle.pg_parse_expr.specs.Tree.{height, binary}
 use Rattle.pg_parse_expr.proofs.Bracketing.{chain_concat, chain_or, conjunction_at, closed_refused, closed_last, closed_turn, closed_failed}
 use Rattle.pg_parse_expr.proofs.Factors.{factor_deep}
 use Rattle.pg_parse_expr.proofs.Steps.{joined_reads, step_deep, step_failed, step_read, chain_turn, chain_turn_failed, chain_end, compare_deep, compare_failed, compare_read, comparison_failed, comparison_read}
-use Rattle.pg_parse_expr.proofs.Tests.{test_deep, test_not, tested_distinct, distinct_failed, distinct_read, tests_turn, tests_turn_failed, tests_end, negation_deep}
+use Rattle.pg_parse_expr.proofs.Testing.{test_deep, test_not, tested_distinct, distinct_failed, distinct_read, tests_turn, tests_turn_failed, tests_end, negation_deep}
 use Rattle.pg_parse_expr.proofs.Weights.{opening_some}
 use Rattle.pg_parse_expr.proofs.parse.+expr.Goals as goal
 
@@ -77,13 +76,13 @@ closed-loop-rest-preserved t c = record {
 
 pub compared-returns-then-depth-height-ge-MAX_DEPTH-clause-reads : goal.compared-returns-then-depth-height-ge-MAX_DEPTH-clause-reads
 compared-returns-then-depth-height-ge-MAX_DEPTH-clause-reads t c =
-    let same : c.height.result ≡ height c.args.left = cc (c.height.ensures.height, c.left.view_is) in
+    let same : c.height.result ≡ height c.args.left = cc c.height.ensures.height in
     compare_deep c.args.depth c.args.left c.args.tokens.now c.args.behind.now c.args.op (length c.args.tokens.now)
     (omega (arith, same, c.if-depth-height-ge-MAX_DEPTH.true)) c.requires.takes refl
 
 pub compared-returns-in-Ok-clause-reads : goal.compared-returns-in-Ok-clause-reads
 compared-returns-in-Ok-clause-reads t c =
-    let same : c.height.result ≡ height c.args.left = cc (c.height.ensures.height, c.left.view_is) in
+    let same : c.height.result ≡ height c.args.left = cc c.height.ensures.height in
     joined_reads (operation compare_op (concatenation factor) c.args.depth c.args.left) behind_concatenation c.args.tokens.now c.joined.result
     (binary c.args.op c.args.left c.in-Ok.right.value) c.in-Ok.right.rest.now c.joined.ensures
     (compare_read c.args.depth (c.args.depth + 1) c.args.left c.in-Ok.right.value (binary c.args.op c.args.left c.in-Ok.right.value) c.args.tokens.now c.args.behind.now c.in-Ok.right.rest.now c.args.op
@@ -92,7 +91,7 @@ compared-returns-in-Ok-clause-reads t c =
 
 pub compared-returns-clause-reads : goal.compared-returns-clause-reads
 compared-returns-clause-reads t c =
-    let same : c.height.result ≡ height c.args.left = cc (c.height.ensures.height, c.left.view_is) in
+    let same : c.height.result ≡ height c.args.left = cc c.height.ensures.height in
     compare_failed c.args.depth (c.args.depth + 1) c.args.left c.args.tokens.now c.args.behind.now c.args.op c.in-Err.fault
     (omega (arith, same, c.if-depth-height-ge-MAX_DEPTH.false)) c.requires.takes (omega arith)
     (chain_concat (c.args.depth + 1) c.args.behind.now (failed c.in-Err.fault) c.in-Err.ensures.reads)
@@ -134,13 +133,13 @@ negation-returns-then-depth-ge-MAX_DEPTH-clause-reads t c =
 
 pub operation-returns-then-depth-height-ge-MAX_DEPTH-clause-reads : goal.operation-returns-then-depth-height-ge-MAX_DEPTH-clause-reads
 operation-returns-then-depth-height-ge-MAX_DEPTH-clause-reads t c =
-    let same : c.height.result ≡ height c.args.left = cc (c.height.ensures.height, c.left.view_is) in
+    let same : c.height.result ≡ height c.args.left = cc c.height.ensures.height in
     step_deep c.args.level c.args.depth c.args.left c.args.tokens.now c.args.behind.now c.args.op (length c.args.tokens.now)
     (omega (arith, same, c.if-depth-height-ge-MAX_DEPTH.true)) c.requires.takes refl
 
 pub operation-returns-in-Ok-clause-reads : goal.operation-returns-in-Ok-clause-reads
 operation-returns-in-Ok-clause-reads t c =
-    let same : c.height.result ≡ height c.args.left = cc (c.height.ensures.height, c.left.view_is) in
+    let same : c.height.result ≡ height c.args.left = cc c.height.ensures.height in
     joined_reads (step_at c.args.level c.args.depth c.args.left) (before_at c.args.level) c.args.tokens.now c.joined.result
     (binary c.args.op c.args.left c.in-Ok.right.value) c.in-Ok.right.rest.now c.joined.ensures
     (step_read c.args.level c.args.depth (c.args.depth + 1) c.args.left c.in-Ok.right.value (binary c.args.op c.args.left c.in-Ok.right.value) c.args.tokens.now c.args.behind.now c.in-Ok.right.rest.now c.args.op
@@ -148,19 +147,19 @@ operation-returns-in-Ok-clause-reads t c =
 
 pub operation-returns-clause-reads : goal.operation-returns-clause-reads
 operation-returns-clause-reads t c =
-    let same : c.height.result ≡ height c.args.left = cc (c.height.ensures.height, c.left.view_is) in
+    let same : c.height.result ≡ height c.args.left = cc c.height.ensures.height in
     step_failed c.args.level c.args.depth (c.args.depth + 1) c.args.left c.args.tokens.now c.args.behind.now c.args.op c.in-Err.fault
     (omega (arith, same, c.if-depth-height-ge-MAX_DEPTH.false)) c.requires.takes (omega arith) c.in-Err.ensures.reads
 
 pub test-returns-then-depth-height-ge-MAX_DEPTH-clause-reads : goal.test-returns-then-depth-height-ge-MAX_DEPTH-clause-reads
 test-returns-then-depth-height-ge-MAX_DEPTH-clause-reads t c =
-    let same : c.height.result ≡ height c.args.left = cc (c.height.ensures.height, c.left.view_is) in
+    let same : c.height.result ≡ height c.args.left = cc c.height.ensures.height in
     test_deep c.args.depth c.args.left (length c.args.tokens.now) c.args.tokens.now c.args.behind.now
     (omega (arith, same, c.if-depth-height-ge-MAX_DEPTH.true)) c.requires.takes refl
 
 pub test-returns-in-Some-clause-reads : goal.test-returns-in-Some-clause-reads
 test-returns-in-Some-clause-reads t c =
-    let same : c.height.result ≡ height c.args.left = cc (c.height.ensures.height, c.left.view_is) in
+    let same : c.height.result ≡ height c.args.left = cc c.height.ensures.height in
     test_not c.args.depth c.args.left c.args.tokens.now c.args.behind.now c.in-Some.rest.now (seen c.tested.result)
     (omega (arith, same, c.if-depth-height-ge-MAX_DEPTH.false)) c.requires.takes c.in-Some.ensures c.tested.ensures.reads
 

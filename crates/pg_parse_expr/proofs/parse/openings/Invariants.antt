@@ -1,4 +1,4 @@
-use Rattle.std.proofs.Common.{◌≡◌, ◌++◌, ◌+◌, ℕ, length, replicate}
+use Rattle.std.proofs.Common.{◌≡◌, ◌++◌, ◌+◌, length, replicate}
 use Rattle.pg_lexer.specs.declared.sign.Sign.TheVariants.{Open}
 use Rattle.pg_lexer.specs.declared.token.Token.TheVariants.{Sign}
 use Rattle.pg_parse_expr.proofs.parse.openings.Given as goal

@@ -1,4 +1,4 @@
-use Rattle.std.proofs.Common.{◌≡◌, ◌-◌, ◌≤◌, length, refl, ap, ◌∙◌, arith}
+use Rattle.std.proofs.Common.{◌≡◌, ◌-◌, length, refl, ap, arith}
 use Rattle.std.proofs.lemmas.List.{length-map}
 use Rattle.pg_parse_expr.proofs.Wholes.{parsed_ok, parsed_err}
 use Rattle.pg_parse_expr.proofs.whole.parse_expr.Goals as goal

@@ -1,5 +1,5 @@
 -- IS [NOT] NULL and IS [NOT] DISTINCT FROM, and NOT.
-use Rattle.std.proofs.Common.{◌≡◌, ◌∷◌, ◌++◌, ◌+◌, ◌<◌, ◌≤◌, ℕ, zero, suc, Bool, true, false, not, ◌&&◌, List, [], length, Option, Some, None, refl, sym, ap, ◌∙◌, subst, inl, inr, arith}
+use Rattle.std.proofs.Common.{◌≡◌, ◌∷◌, ◌+◌, ◌<◌, ◌≤◌, ℕ, suc, Bool, true, false, not, List, [], length, Option, Some, None, refl, sym, ap, ◌∙◌, subst, arith}
 use Rattle.std.proofs.lemmas.Bool.{and_parts}
 use Rattle.pg_exprs.specs.declared.operator.BinaryOp.{BinaryOp}
 use Rattle.pg_exprs.specs.declared.operator.BinaryOp.TheVariants.{IsDistinctFrom, IsNotDistinctFrom}
@@ -8,10 +8,10 @@ use Rattle.pg_exprs.specs.declared.operator.UnaryOp.TheVariants.{Not, IsNull, Is
 use Rattle.pg_grammar.specs.declared.fault.Fault.{Fault}
 use Rattle.pg_grammar.specs.declared.fault.Fault.TheVariants.{Syntax, Deep}
 use Rattle.pg_grammar.specs.Limits.{Limit, nodes}
-use Rattle.pg_grammar.specs.Languages.{Lang, gives, one, bind, either, more, reaches, token, knot}
+use Rattle.pg_grammar.specs.Languages.{Lang, gives, bind, either, more, reaches, token}
 use Rattle.pg_grammar.specs.Answers.{next, Lacks, Misses, Seen, read, failed, Reads}
 use Rattle.pg_grammar.proofs.Leading.{Leads, leads_on}
-use Rattle.pg_grammar.proofs.Words.{Starts, Bars, Spelled, Begun, spelled_gives, spelled_left, spelled_right, spelled_token, spelled_bind, spelled_more, begun_token, bars_reaches, bars_bind, bars_one, bars_token, bars_either, bars_knot, starts_gives, starts_more, starts_reaches, starts_token}
+use Rattle.pg_grammar.proofs.Words.{Starts, Bars, Spelled, spelled_gives, spelled_left, spelled_right, spelled_token, spelled_bind, spelled_more, begun_token, bars_reaches, bars_bind, bars_token, bars_either, bars_knot, starts_gives, starts_more, starts_reaches, starts_token}
 use Rattle.pg_grammar.proofs.Combining.{reads_gives, reads_refused, reads_over, reads_bind_failed, leads_reaches, leads_bind, leads_token, leads_left, leads_right, leads_more, leads_no_more}
 use Rattle.pg_grammar.proofs.Knots.{leads_knot}
 use Rattle.pg_lexer.specs.declared.keyword.Keyword.{Keyword}
@@ -22,13 +22,13 @@ use Rattle.pg_lexer.specs.declared.token.Token.TheVariants as t
 use Rattle.pg_lexer.specs.Keywords.{may_be_name}
 use Rattle.pg_parse_expr.specs.Behind.{has, is_is, behind_factor, behind_product, behind_sum, behind_concatenation, behind_comparison, behind_predicate}
 use Rattle.pg_parse_expr.specs.Grammar.{Rule, operation, chain, product, sum, concatenation, compared, comparison, tested, test, predicate, negation_over, negation, leaf, minus, bracket, disjunction, factor_over, factor}
-use Rattle.pg_parse_expr.specs.Operators.{literal_of, name_of, literal_word, compare_op, concat_op, sum_op, product_op}
+use Rattle.pg_parse_expr.specs.Operators.{literal_of, name_of, compare_op, concat_op, sum_op, product_op}
 use Rattle.pg_parse_expr.specs.Rest.{distinct_operand}
 use Rattle.pg_parse_expr.specs.Tree.{Tree, height, unary, binary}
 use Rattle.pg_parse_expr.proofs.After.{any, starts_any, bars_any, comparison_before}
 use Rattle.pg_parse_expr.proofs.Growth.{rises_not}
 use Rattle.pg_parse_expr.proofs.Leaves.{bars_leaf}
-use Rattle.pg_parse_expr.proofs.Spelling.{spelled_concatenation, spelled_predicate, spelled_negation}
+use Rattle.pg_parse_expr.proofs.Spelling.{spelled_concatenation, spelled_negation}
 use Rattle.pg_parse_expr.proofs.Steps.{reads_shorter}
 
 other_word : (k k' : Keyword) (xs ys : List Token) → xs ≡ t.Keyword k ∷ ys → (k ≡ k' → ⊥) → next xs ≡ Some (t.Keyword k') → ⊥
