@@ -1,3 +1,13 @@
+pub mod After
+pub mod Spelling
+pub mod Steps
+pub mod Weights
+pub mod Growth
+pub mod Leaves
+pub mod Tests
+pub mod Factors
+pub mod Bracketing
+pub mod Wholes
 pub mod Unambiguous
 pub mod Spelled
 pub mod Within

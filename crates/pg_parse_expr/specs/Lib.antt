@@ -4,4 +4,7 @@ pub mod Node
 pub mod Operators
 pub mod Grammar
 pub mod Behind
+pub mod Levels
+pub mod Rest
+pub mod Places
 pub mod Laws

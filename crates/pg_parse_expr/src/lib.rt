@@ -1,8 +1,17 @@
 //! Expressions from tokens: the tree, or the first bad place.
 #![tactic(auto)]
 
+mod front;
 mod laws;
+mod leaf;
+mod level;
+mod parse;
+#[cfg(test)]
+mod tests;
 mod tree;
+mod whole;
 
 pub use laws::{at_most_one_tree, each_tree_is_spelled, each_tree_is_within};
+pub use parse::expr;
 pub use tree::{ExprTree, Node};
+pub use whole::{ParseFault, parse_expr};
