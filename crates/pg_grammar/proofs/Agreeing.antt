@@ -99,7 +99,7 @@ module _ {T V I : Type 0} (p f : Option T → Bool) (G K : (I → Lang T V) → 
     (begun : (F : I → Lang T V) → ((j : I) → Starts p (F j) f) → (j : I) → Starts p (G F j) f)
     (begins : (F : I → Lang T V) → ((j : I) → Starts p (F j) f) → (j : I) → Starts p (K F j) f)
     (agrees : (F H : I → Lang T V) → ((j : I) → Starts p (F j) f) → ((j : I) → Starts p (H j) f) →
-        ((j : I) → Agree (F j) (H j) f) → (j : I) → Agree (G F j) (K H j) f) where
+    ((j : I) → Agree (F j) (H j) f) → (j : I) → Agree (G F j) (K H j) f) where
   agree_tie : (a b : ℕ) (i : I) → Agree (tie G a i) (tie K b i) f
   agree_tie zero b i = record { same = λ m n s v w y z l r c d. absurd l }
   agree_tie (suc a) zero i = record { same = λ m n s v w y z l r c d. absurd r }
@@ -108,10 +108,10 @@ module _ {T V I : Type 0} (p f : Option T → Bool) (G K : (I → Lang T V) → 
         elim l [
           | inl x ↦ (agree_tie a (suc b) i).same m n s v w y z x r c d
           | inr x ↦
-            elim r [
-              | inl u ↦ (agree_tie (suc a) b i).same m n s v w y z (inr x) u c d
-              | inr u ↦ (agrees (tie G a) (tie K b) (starts_tie p f G begun a) (starts_tie p f K begins b) (λ j. agree_tie a b j) i).same m n s v w y z x u c d
-            ]
+              elim r [
+                | inl u ↦ (agree_tie (suc a) b i).same m n s v w y z (inr x) u c d
+                | inr u ↦ (agrees (tie G a) (tie K b) (starts_tie p f G begun a) (starts_tie p f K begins b) (λ j. agree_tie a b j) i).same m n s v w y z x u c d
+              ]
         ];
   }
 
