@@ -4,6 +4,7 @@ use pg_exprs::{Arithmetic, BinaryOp, Comparison, UnaryOp};
 use pg_lexer::read_front;
 use pg_values::Value;
 use std::alloc::{AllocError, Global};
+use std::thread::Builder;
 
 /// The names of operators, as the tests print trees.
 fn binary_sign(op: BinaryOp) -> &'static str {
@@ -167,6 +168,18 @@ fn repeated(alloc: Global, piece: &str, count: usize, end: &str) -> Result<Vec<u
     Ok(line)
 }
 
+/// The fault of a line that writes a piece so many times, and then an end.
+fn fault_of(
+    alloc: Global,
+    piece: &str,
+    count: usize,
+    end: &str,
+) -> Result<Option<ParseFault>, AllocError> {
+    let line = repeated(alloc, piece, count, end)?;
+    Ok(parsed(alloc, line.as_slice())?.err())
+}
+
+/// Each line is read or refused in a stack of 1 MiB.
 #[test]
 fn paths_have_64_nodes(rt: HostRuntime) -> Result<(), AllocError> {
     for (piece, count, end, want) in [
@@ -176,6 +189,7 @@ fn paths_have_64_nodes(rt: HostRuntime) -> Result<(), AllocError> {
         ("a+", 63, "a", None),
         ("a+", 64, "a", Some(ParseFault::Depth(128))),
         ("a+", 524288, "", Some(ParseFault::Depth(128))),
+        ("a,", 524288, "", None),
         ("(", 1048576, "", Some(ParseFault::Syntax(1048577))),
         ("(", 524287, "1", Some(ParseFault::Syntax(524289))),
         ("(1+", 63, "1", Some(ParseFault::Syntax(191))),
@@ -185,9 +199,11 @@ fn paths_have_64_nodes(rt: HostRuntime) -> Result<(), AllocError> {
         ("-(", 100000, "1", Some(ParseFault::Depth(129))),
         ("1-(", 100000, "1", Some(ParseFault::Depth(191))),
     ] {
-        let line = repeated(rt.alloc(), piece, count, end)?;
-        let got = parsed(rt.alloc(), line.as_slice())?;
-        assert_eq!(rt; got.err(), want, "{piece}");
+        let reading = Builder::new()
+            .stack_size(1048576)
+            .spawn(&rt, move || fault_of(rt.alloc(), piece, count, end))
+            .map_err(|_| AllocError)?;
+        assert_eq!(rt; reading.join(&rt)?, want, "{piece}");
     }
     Ok(())
 }
