@@ -25,7 +25,8 @@ any t = true
 pub starts_any : {V : Type 0} (L : Lang Token V) (g : Option Token → Bool) → Starts any L g
 starts_any L g = record { starts = λ m s v z l c. refl }
 
-pub bars_any : {V : Type 0} (L : Lang Token V) (g : Option Token → Bool) (k : ℕ) (xs : List Token) → Bars L any k xs → Bars L g k xs
+pub bars_any : {V : Type 0} (L : Lang Token V) (g : Option Token → Bool) (k : ℕ) (xs : List Token) → Bars L any k xs →
+    Bars L g k xs
 bars_any L g k xs b = record { bars = λ m s v z e l c. b.bars m s v z e l refl }
 
 -- behind a chain may stand what may stand behind its operands
@@ -84,33 +85,43 @@ has_some : (f : Token → Option BinaryOp) (t : Token) (x : BinaryOp) → f t �
 unfolding has
 has_some f t x e = ap is_some e
 
-pub op_not_behind : (level : Level) (t : Token) (x : BinaryOp) → op_at level t ≡ Some x → behind_at level (Some t) ≡ false
+pub op_not_behind : (level : Level) (t : Token) (x : BinaryOp) → op_at level t ≡ Some x →
+    behind_at level (Some t) ≡ false
 unfolding behind_at
 op_not_behind level t x e =
-    and_right (before_at level (Some t)) (not (has (op_at level) (Some t))) (not_from_true (has (op_at level) (Some t)) (has_some (op_at level) t x e))
+    and_right (before_at level (Some t)) (not (has (op_at level) (Some t)))
+    (not_from_true (has (op_at level) (Some t)) (has_some (op_at level) t x e))
 
 pub compare_not_behind : (t : Token) (x : BinaryOp) → compare_op t ≡ Some x → behind_comparison (Some t) ≡ false
 unfolding behind_comparison
 compare_not_behind t x e =
-    and_right (behind_concatenation (Some t)) (not (has compare_op (Some t))) (not_from_true (has compare_op (Some t)) (has_some compare_op t x e))
+    and_right (behind_concatenation (Some t)) (not (has compare_op (Some t)))
+    (not_from_true (has compare_op (Some t)) (has_some compare_op t x e))
 
 pub comparison_before : (t : Option Token) → behind_comparison t ≡ true → behind_concatenation t ≡ true
 unfolding behind_comparison
 comparison_before t h = (and_parts (behind_concatenation t) (not (has compare_op t)) h).0
 
 -- an operation begins with its operator
-pub starts_operation : (op : Token → Option BinaryOp) (operand : Rule) (f : Option Token → Bool) (d : ℕ) (left : Tree) (g : Option Token → Bool) →
+pub starts_operation : (op : Token → Option BinaryOp) (operand : Rule) (f : Option Token → Bool) (d : ℕ) (left : Tree)
+    (g : Option Token → Bool) →
     ((t : Token) (x : BinaryOp) → op t ≡ Some x → f (Some t) ≡ true) → Starts f (operation op operand d left) g
 unfolding operation
 starts_operation op operand f d left g h =
-    starts_reaches f g nodes (suc (d + height left)) (bind (one op) (λ o. bind (operand (suc d)) (λ right. gives (binary o left right))))
-    (starts_bind f any g (one op) (λ o. bind (operand (suc d)) (λ right. gives (binary o left right))) (starts_one f any op h)
+    starts_reaches f g nodes (suc (d + height left)) (bind (one op)
+    (λ o. bind (operand (suc d)) (λ right. gives (binary o left right))))
+    (starts_bind f any g (one op) (λ o. bind (operand (suc d)) (λ right. gives (binary o left right)))
+    (starts_one f any op h)
     (λ o. starts_any (bind (operand (suc d)) (λ right. gives (binary o left right))) g))
 
-pub starts_step : (level : Level) (d : ℕ) (left : Tree) (g : Option Token → Bool) → Starts (before_at level) (step_at level d left) g
+pub starts_step : (level : Level) (d : ℕ) (left : Tree) (g : Option Token → Bool) →
+    Starts (before_at level) (step_at level d left) g
 unfolding step_at
-starts_step level d left g = starts_operation (op_at level) (operand_at level) (before_at level) d left g (op_before level)
+starts_step level d left g =
+    starts_operation (op_at level) (operand_at level) (before_at level) d left g (op_before level)
 
-pub starts_steps : (level : Level) (d : ℕ) (left : Tree) → Starts (before_at level) (more (step_at level d) left) (behind_at level)
+pub starts_steps : (level : Level) (d : ℕ) (left : Tree) →
+    Starts (before_at level) (more (step_at level d) left) (behind_at level)
 starts_steps level d left =
-    starts_more (before_at level) (behind_at level) (step_at level d) left (λ a. starts_step level d a (before_at level)) (behind_before level)
+    starts_more (before_at level) (behind_at level) (step_at level d) left
+    (λ a. starts_step level d a (before_at level)) (behind_before level)

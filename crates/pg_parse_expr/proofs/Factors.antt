@@ -47,46 +47,59 @@ module _ (d : ℕ) where
 
   spelled_negated : Spelled negated
   unfolding negated
-  spelled_negated = spelled_bind (factor (suc d)) (λ a. gives (unary Negate a)) (spelled_factor (suc d)) (λ a. spelled_gives (unary Negate a))
+  spelled_negated =
+      spelled_bind (factor (suc d)) (λ a. gives (unary Negate a)) (spelled_factor (suc d))
+      (λ a. spelled_gives (unary Negate a))
 
-  leads_factor : (xs : List Token) → Leads (factor d) xs (either (either (leaf d) (minus factor d)) (bracket factor d)) xs behind_factor
+  leads_factor : (xs : List Token) → Leads (factor d) xs (either (either (leaf d) (minus factor d))
+      (bracket factor d)) xs behind_factor
   unfolding factor factor_over
   leads_factor xs = leads_knot factor_over rises_factor behind_factor d xs
 
-  leads_simple : (xs : List Token) → Misses (t.Sign sign.Open) xs → Leads (factor d) xs (either (leaf d) (minus factor d)) xs behind_factor
+  leads_simple : (xs : List Token) → Misses (t.Sign sign.Open) xs →
+      Leads (factor d) xs (either (leaf d) (minus factor d)) xs behind_factor
   unfolding bracket
   leads_simple xs m =
       leads_on (leads_factor xs)
       (leads_left (either (leaf d) (minus factor d)) (bracket factor d) behind_factor xs
-      (bars_token behind_factor (t.Sign sign.Open) (bind (disjunction factor d) (λ e. token (t.Sign sign.Close) (gives e))) 0 xs m.misses))
+      (bars_token behind_factor (t.Sign sign.Open) (bind (disjunction factor d)
+      (λ e. token (t.Sign sign.Close) (gives e))) 0 xs m.misses))
 
-  pub factor_leaf : (xs : List Token) (o : Seen Token Tree) → Misses (t.Sign sign.Open) xs → Misses (t.Sign sign.Minus) xs → Reads (leaf d) behind_factor xs o →
+  pub factor_leaf : (xs : List Token) (o : Seen Token Tree) → Misses (t.Sign sign.Open) xs →
+      Misses (t.Sign sign.Minus) xs → Reads (leaf d) behind_factor xs o →
       Reads (factor d) behind_factor xs o
   unfolding minus negated
   factor_leaf xs o no_open no_minus r =
       (leads_on (leads_simple xs no_open)
       (leads_left (leaf d) (minus factor d) behind_factor xs
-      (bars_reaches behind_factor nodes (suc d) (token (t.Sign sign.Minus) negated) 1 xs (bars_token behind_factor (t.Sign sign.Minus) negated 0 xs no_minus.misses)))).to o r
+      (bars_reaches behind_factor nodes (suc d) (token (t.Sign sign.Minus) negated) 1 xs
+      (bars_token behind_factor (t.Sign sign.Minus) negated 0 xs no_minus.misses)))).to o r
 
-  leads_minus : (xs ys : List Token) → Misses (t.Sign sign.Open) xs → xs ≡ t.Sign sign.Minus ∷ ys → Leads (factor d) xs (reaches nodes (suc d) (token (t.Sign sign.Minus) negated)) xs behind_factor
+  leads_minus : (xs ys : List Token) → Misses (t.Sign sign.Open) xs → xs ≡ t.Sign sign.Minus ∷ ys →
+      Leads (factor d) xs (reaches nodes (suc d) (token (t.Sign sign.Minus) negated)) xs behind_factor
   unfolding minus negated
   leads_minus xs ys no_open e =
       leads_on (leads_simple xs no_open)
-      (leads_right (leaf d) (minus factor d) behind_factor xs (bars_leaf behind_factor d xs (minus_lacks_literal xs ys e) (minus_lacks_name xs ys e)))
+      (leads_right (leaf d) (minus factor d) behind_factor xs
+      (bars_leaf behind_factor d xs (minus_lacks_literal xs ys e) (minus_lacks_name xs ys e)))
 
-  pub factor_deep : (n : ℕ) (xs ys : List Token) → Misses (t.Sign sign.Open) xs → xs ≡ t.Sign sign.Minus ∷ ys → 64 ≤ d → n ≡ length xs → Reads (factor d) behind_factor xs (failed (Deep n))
+  pub factor_deep : (n : ℕ) (xs ys : List Token) → Misses (t.Sign sign.Open) xs → xs ≡ t.Sign sign.Minus ∷ ys → 64 ≤ d →
+      n ≡ length xs → Reads (factor d) behind_factor xs (failed (Deep n))
   factor_deep n xs ys no_open e deep h =
       (leads_minus xs ys no_open e).to (failed (Deep n))
-      (reads_over nodes (suc d) (token (t.Sign sign.Minus) negated) behind_factor xs ys (t.Sign sign.Minus) n (omega (arith, deep)) e
+      (reads_over nodes (suc d) (token (t.Sign sign.Minus) negated) behind_factor xs ys (t.Sign sign.Minus) n
+      (omega (arith, deep)) e
       (begun_token (t.Sign sign.Minus) negated spelled_negated) h)
 
-  leads_negated : (xs ys : List Token) → Misses (t.Sign sign.Open) xs → xs ≡ t.Sign sign.Minus ∷ ys → d < 64 → Leads (factor d) xs negated ys behind_factor
+  leads_negated : (xs ys : List Token) → Misses (t.Sign sign.Open) xs → xs ≡ t.Sign sign.Minus ∷ ys → d < 64 →
+      Leads (factor d) xs negated ys behind_factor
   leads_negated xs ys no_open e fits =
       leads_on (leads_minus xs ys no_open e)
       (leads_on (leads_reaches nodes (suc d) (token (t.Sign sign.Minus) negated) behind_factor xs (omega (arith, fits)))
       (leads_token (t.Sign sign.Minus) negated behind_factor xs ys e))
 
-  pub factor_failed : (k : ℕ) (xs ys : List Token) (e : Fault) → Misses (t.Sign sign.Open) xs → xs ≡ t.Sign sign.Minus ∷ ys → d < 64 → k ≡ suc d →
+  pub factor_failed : (k : ℕ) (xs ys : List Token) (e : Fault) → Misses (t.Sign sign.Open) xs →
+      xs ≡ t.Sign sign.Minus ∷ ys → d < 64 → k ≡ suc d →
       Reads (factor k) behind_factor ys (failed e) → Reads (factor d) behind_factor xs (failed e)
   unfolding negated
   factor_failed k xs ys e no_open is fits same r =
@@ -95,8 +108,10 @@ module _ (d : ℕ) where
       (subst (λ j. Reads (factor j) behind_factor ys (failed e)) same r)
       (λ a. starts_gives behind_factor behind_factor (unary Negate a) (λ o h. h)) (λ a. spelled_gives (unary Negate a)))
 
-  pub factor_read : (k : ℕ) (xs ys zs : List Token) (a tree : Tree) → Misses (t.Sign sign.Open) xs → xs ≡ t.Sign sign.Minus ∷ ys → d < 64 → k ≡ suc d →
-      Reads (factor k) behind_factor ys (read a zs) → tree ≡ unary Negate a → Reads (factor d) behind_factor xs (read tree zs)
+  pub factor_read : (k : ℕ) (xs ys zs : List Token) (a tree : Tree) → Misses (t.Sign sign.Open) xs →
+      xs ≡ t.Sign sign.Minus ∷ ys → d < 64 → k ≡ suc d →
+      Reads (factor k) behind_factor ys (read a zs) → tree ≡ unary Negate a → Reads (factor d) behind_factor xs
+      (read tree zs)
   unfolding negated
   factor_read k xs ys zs a tree no_open is fits same r h =
       (leads_on (leads_negated xs ys no_open is fits)

@@ -19,12 +19,15 @@ use Rattle.pg_parse_expr.specs.Tree.{Tree, height, unary, binary}
 abbrev pub Rises : (Rule → Rule) → Type 1
 Rises H = (d : ℕ) → Grows {T = Token} {U = Tree} {V = Tree} {I = ℕ} (λ F. H F d)
 
-rises_operation : (op : Token → Option BinaryOp) (H : Rule → Rule) → Rises H → (d : ℕ) (left : Tree) → Grows {T = Token} {U = Tree} {V = Tree} {I = ℕ} (λ F. operation op (H F) d left)
+rises_operation : (op : Token → Option BinaryOp) (H : Rule → Rule) → Rises H → (d : ℕ) (left : Tree) →
+    Grows {T = Token} {U = Tree} {V = Tree} {I = ℕ} (λ F. operation op (H F) d left)
 unfolding operation
 rises_operation op H g d left =
-    grows_reaches nodes (suc (d + height left)) (λ F. bind (one op) (λ o. bind (H F (suc d)) (λ right. gives (binary o left right))))
+    grows_reaches nodes (suc (d + height left)) (λ F. bind (one op)
+    (λ o. bind (H F (suc d)) (λ right. gives (binary o left right))))
     (grows_bind (λ F. one op) (λ o F. bind (H F (suc d)) (λ right. gives (binary o left right))) (grows_same (one op))
-    (λ o. grows_bind (λ F. H F (suc d)) (λ right F. gives (binary o left right)) (g (suc d)) (λ right. grows_same (gives (binary o left right)))))
+    (λ o. grows_bind (λ F. H F (suc d)) (λ right F. gives (binary o left right)) (g (suc d))
+    (λ right. grows_same (gives (binary o left right)))))
 
 rises_chain : (op : Token → Option BinaryOp) (H : Rule → Rule) → Rises H → Rises (λ F. chain op (H F))
 unfolding chain
@@ -52,28 +55,37 @@ rises_compared d left =
 
 rises_comparison : Rises comparison
 unfolding comparison
-rises_comparison d = grows_bind (λ F. concatenation F d) (λ x F. compared F d x) (rises_concatenation d) (λ x. rises_compared d x)
+rises_comparison d =
+    grows_bind (λ F. concatenation F d) (λ x F. compared F d x) (rises_concatenation d) (λ x. rises_compared d x)
 
-rises_tested : (null : UnaryOp) (distinct : BinaryOp) (d : ℕ) (left : Tree) → Grows {T = Token} {U = Tree} {V = Tree} {I = ℕ} (λ F. tested null distinct F d left)
+rises_tested : (null : UnaryOp) (distinct : BinaryOp) (d : ℕ) (left : Tree) →
+    Grows {T = Token} {U = Tree} {V = Tree} {I = ℕ} (λ F. tested null distinct F d left)
 unfolding tested
 rises_tested null distinct d left =
     grows_either (λ F. token (Keyword word.Null) (gives (unary null left)))
-    (λ F. token (Keyword word.Distinct) (token (Keyword word.From) (bind (concatenation F (suc d)) (λ right. gives (binary distinct left right)))))
+    (λ F. token (Keyword word.Distinct) (token (Keyword word.From)
+    (bind (concatenation F (suc d)) (λ right. gives (binary distinct left right)))))
     (grows_same (token (Keyword word.Null) (gives (unary null left))))
-    (grows_token (Keyword word.Distinct) (λ F. token (Keyword word.From) (bind (concatenation F (suc d)) (λ right. gives (binary distinct left right))))
+    (grows_token (Keyword word.Distinct) (λ F. token (Keyword word.From)
+    (bind (concatenation F (suc d)) (λ right. gives (binary distinct left right))))
     (grows_token (Keyword word.From) (λ F. bind (concatenation F (suc d)) (λ right. gives (binary distinct left right)))
-    (grows_bind (λ F. concatenation F (suc d)) (λ right F. gives (binary distinct left right)) (rises_concatenation (suc d))
+    (grows_bind (λ F. concatenation F (suc d)) (λ right F. gives (binary distinct left right))
+    (rises_concatenation (suc d))
     (λ right. grows_same (gives (binary distinct left right))))))
 
 rises_test : (d : ℕ) (left : Tree) → Grows {T = Token} {U = Tree} {V = Tree} {I = ℕ} (λ F. test F d left)
 unfolding test
 rises_test d left =
     grows_reaches nodes (suc (d + height left))
-    (λ F. token (Keyword word.Is) (either (token (Keyword word.Not) (tested IsNotNull IsNotDistinctFrom F d left)) (tested IsNull IsDistinctFrom F d left)))
+    (λ F. token (Keyword word.Is) (either (token (Keyword word.Not) (tested IsNotNull IsNotDistinctFrom F d left))
+    (tested IsNull IsDistinctFrom F d left)))
     (grows_token (Keyword word.Is)
-    (λ F. either (token (Keyword word.Not) (tested IsNotNull IsNotDistinctFrom F d left)) (tested IsNull IsDistinctFrom F d left))
-    (grows_either (λ F. token (Keyword word.Not) (tested IsNotNull IsNotDistinctFrom F d left)) (λ F. tested IsNull IsDistinctFrom F d left)
-    (grows_token (Keyword word.Not) (λ F. tested IsNotNull IsNotDistinctFrom F d left) (rises_tested IsNotNull IsNotDistinctFrom d left))
+    (λ F. either (token (Keyword word.Not) (tested IsNotNull IsNotDistinctFrom F d left))
+    (tested IsNull IsDistinctFrom F d left))
+    (grows_either (λ F. token (Keyword word.Not) (tested IsNotNull IsNotDistinctFrom F d left))
+    (λ F. tested IsNull IsDistinctFrom F d left)
+    (grows_token (Keyword word.Not) (λ F. tested IsNotNull IsNotDistinctFrom F d left)
+    (rises_tested IsNotNull IsNotDistinctFrom d left))
     (rises_tested IsNull IsDistinctFrom d left)))
 
 rises_predicate : Rises predicate
@@ -96,7 +108,8 @@ unfolding negation_over
 rises_tie zero d = grows_same (λ m s v z. ⊥)
 rises_tie (suc n) d =
     grows_either (λ F. tie (negation_over F) n d) (λ F. negation_over F (tie (negation_over F) n) d) (rises_tie n d)
-    (grows_either (λ F. nots (λ G. tie (negation_over G) n) F d) (λ F. predicate F d) (rises_nots (λ G. tie (negation_over G) n) (rises_tie n) d) (rises_predicate d))
+    (grows_either (λ F. nots (λ G. tie (negation_over G) n) F d) (λ F. predicate F d)
+    (rises_nots (λ G. tie (negation_over G) n) (rises_tie n) d) (rises_predicate d))
 
 rises_negation : Rises negation
 unfolding negation
@@ -118,7 +131,8 @@ unfolding minus
 rises_minus d =
     grows_reaches nodes (suc d) (λ F. token (Sign sign.Minus) (bind (F (suc d)) (λ a. gives (unary Negate a))))
     (grows_token (Sign sign.Minus) (λ F. bind (F (suc d)) (λ a. gives (unary Negate a)))
-    (grows_bind (λ F. F (suc d)) (λ a F. gives (unary Negate a)) (grows_back (suc d)) (λ a. grows_same (gives (unary Negate a)))))
+    (grows_bind (λ F. F (suc d)) (λ a F. gives (unary Negate a)) (grows_back (suc d))
+    (λ a. grows_same (gives (unary Negate a)))))
 
 rises_bracket : Rises bracket
 unfolding bracket
@@ -137,4 +151,5 @@ rises_factor d =
 pub rises_not : Rises (negation_over factor)
 unfolding negation_over
 rises_not d =
-    grows_either (λ N. nots (λ M. M) N d) (λ N. predicate factor d) (rises_nots (λ M. M) (λ k. grows_back k) d) (grows_same (predicate factor d))
+    grows_either (λ N. nots (λ M. M) N d) (λ N. predicate factor d) (rises_nots (λ M. M) (λ k. grows_back k) d)
+    (grows_same (predicate factor d))

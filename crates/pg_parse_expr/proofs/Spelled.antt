@@ -30,7 +30,7 @@ use Rattle.pg_parse_expr.specs.Laws.{is_literal, lies, is_free, is_free_name, is
 use Rattle.pg_parse_expr.specs.Tree.{Tree, height, literal, column, column_of, action, unary, binary}
 
 -- the token of a literal, and that of a name
-literal_token : Value → Token
+pub literal_token : Value → Token
 literal_token value.Null = Keyword word.Null
 literal_token (value.Bool true) = Keyword word.True
 literal_token (value.Bool false) = Keyword word.False
@@ -40,7 +40,7 @@ literal_token (value.Int (negsuc n)) = Keyword word.Null
 literal_token (value.Big (negsuc n)) = Keyword word.Null
 literal_token (value.Text text) = Quoted text
 
-name_token : List ℕ → Token
+pub name_token : List ℕ → Token
 name_token name = word_token name (keyword_of name)
 
 comparison_token : Comparison → Token
@@ -77,16 +77,18 @@ put action z = action_name ∷ Sign sign.Open ∷ Sign sign.Close ∷ z
 put (unary Negate a) z = Sign sign.Minus ∷ put a z
 put (unary Not a) z = Sign sign.Open ∷ Keyword word.Not ∷ put a (Sign sign.Close ∷ z)
 put (unary IsNull a) z = Sign sign.Open ∷ put a (Keyword word.Is ∷ Keyword word.Null ∷ Sign sign.Close ∷ z)
-put (unary IsNotNull a) z = Sign sign.Open ∷ put a (Keyword word.Is ∷ Keyword word.Not ∷ Keyword word.Null ∷ Sign sign.Close ∷ z)
+put (unary IsNotNull a) z =
+    Sign sign.Open ∷ put a (Keyword word.Is ∷ Keyword word.Not ∷ Keyword word.Null ∷ Sign sign.Close ∷ z)
 put (binary op a b) z = Sign sign.Open ∷ put a (put_op op (put b (Sign sign.Close ∷ z)))
 
 -- what the tokens mean
-integer_read : (n : ℕ) → lies 0 2147483647 (pos n) ≡ true → number_value n ≡ Some (value.Int (pos n))
+pub integer_read : (n : ℕ) → lies 0 2147483647 (pos n) ≡ true → number_value n ≡ Some (value.Int (pos n))
 integer_read n h =
     let small = (and_parts (nat_le 0 n) (nat_le n 2147483647) h).1 in
     rw small refl
 
-bigint_read : (n : ℕ) → lies 2147483648 9223372036854775807 (pos n) ≡ true → number_value n ≡ Some (value.Big (pos n))
+pub bigint_read : (n : ℕ) → lies 2147483648 9223372036854775807 (pos n) ≡ true →
+    number_value n ≡ Some (value.Big (pos n))
 bigint_read n h =
     let parts = and_parts (nat_le 2147483648 n) (nat_le n 9223372036854775807) h in
     let large = leb-true 2147483648 n parts.0 in
@@ -105,12 +107,13 @@ literal_read (value.Big (pos n)) h = ap literal_if (bigint_read n h)
 literal_read (value.Big (negsuc n)) h = absurd (cc h)
 literal_read (value.Text text) h = refl
 
-name_read_as : (name : List ℕ) (o : Option Reserved) → keyword_of name ≡ o → is_free o ≡ true → name_of (word_token name o) ≡ Some name
+name_read_as : (name : List ℕ) (o : Option Reserved) → keyword_of name ≡ o → is_free o ≡ true →
+    name_of (word_token name o) ≡ Some name
 unfolding name_of
 name_read_as name None e h = refl
 name_read_as name (Some k) e h = rw h (ap Some (sym ((spelled k name).0 e)))
 
-name_read : (name : List ℕ) → is_free_name name ≡ true → name_of (name_token name) ≡ Some name
+pub name_read : (name : List ℕ) → is_free_name name ≡ true → name_of (name_token name) ≡ Some name
 unfolding name_token
 name_read name h = name_read_as name (keyword_of name) refl (and_parts (is_name name) _ h).1
 
@@ -192,26 +195,56 @@ module _ (F : Rule) (d : ℕ) (m : Limit → ℕ) (s : List Token) (v : Tree) (z
   to_conjunction l = up_conjunction (to_negation l)
 
 -- one operator between two operands
-chained : (op : Token → Option BinaryOp) (operand : Rule) (d : ℕ) (m : Limit → ℕ) (s y z : List Token) (t : Token) (o : BinaryOp)
+chained : (op : Token → Option BinaryOp) (operand : Rule) (d : ℕ) (m : Limit → ℕ) (s y z : List Token) (t : Token)
+    (o : BinaryOp)
     (a b : Tree) → op t ≡ Some o → suc (d + height a) ≤ 64 → operand d m s a (t ∷ y) → operand (suc d) m y b z →
     chain op operand d m s (binary o a b) z
 unfolding chain operation
-chained op operand d m s y z t o a b e low l r =
-    (a, t ∷ y, l, (suc zero, (binary o a b, z, (λ c. low, (o, y, record { head = t; is = refl; value = e }, (b, z, r, (refl, refl)))), (refl, refl))))
+chained op operand d m s y z t o a b e low l r = (
+  a,
+  t ∷ y,
+  l,
+  (
+    suc zero,
+    (
+      binary o a b,
+      z,
+      (
+        λ c. low,
+        (
+          o,
+          y,
+          record { head = t; is = refl; value = e },
+          (b, z, r, (refl, refl)),
+        ),
+      ),
+      (refl, refl),
+    ),
+  ),
+)
 
-module _ (F : Rule) (d : ℕ) (m : Limit → ℕ) (s y z : List Token) (a b : Tree) (low : suc (d + height a) ≤ 64) (r : F (suc d) m y b z) where
+module _ (F : Rule) (d : ℕ) (m : Limit → ℕ) (s y z : List Token) (a b : Tree) (low : suc (d + height a) ≤ 64)
+    (r : F (suc d) m y b z) where
   computed : (op : Arithmetic) → F d m s a (arithmetic_token op ∷ y) → disjunction F d m s (binary (Compute op) a b) z
   unfolding sum product sum_op product_op arithmetic_token
-  computed Add l = from_sum F d m s _ z (chained sum_op (product F) d m s y z _ _ a b refl low (up_product F d m s a _ l) (up_product F (suc d) m y b z r))
-  computed Subtract l = from_sum F d m s _ z (chained sum_op (product F) d m s y z _ _ a b refl low (up_product F d m s a _ l) (up_product F (suc d) m y b z r))
+  computed Add l =
+      from_sum F d m s _ z (chained sum_op (product F) d m s y z _ _ a b refl low (up_product F d m s a _ l)
+      (up_product F (suc d) m y b z r))
+  computed Subtract l =
+      from_sum F d m s _ z (chained sum_op (product F) d m s y z _ _ a b refl low (up_product F d m s a _ l)
+      (up_product F (suc d) m y b z r))
   computed Multiply l = from_product F d m s _ z (chained product_op F d m s y z _ _ a b refl low l r)
   computed Divide l = from_product F d m s _ z (chained product_op F d m s y z _ _ a b refl low l r)
   computed Remainder l = from_product F d m s _ z (chained product_op F d m s y z _ _ a b refl low l r)
 
   joined : (op : BinaryOp) → F d m s a (put_op op y) → disjunction F d m s (binary op a b) z
   unfolding disjunction conjunction predicate comparison compared operation concatenation test tested or_op and_op concat_op put_op
-  joined Or l = chained or_op (conjunction F) d m s y z _ _ a b refl low (to_conjunction F d m s a _ l) (to_conjunction F (suc d) m y b z r)
-  joined And l = up_disjunction F d m s _ z (chained and_op (negation F) d m s y z _ _ a b refl low (to_negation F d m s a _ l) (to_negation F (suc d) m y b z r))
+  joined Or l =
+      chained or_op (conjunction F) d m s y z _ _ a b refl low (to_conjunction F d m s a _ l)
+      (to_conjunction F (suc d) m y b z r)
+  joined And l =
+      up_disjunction F d m s _ z (chained and_op (negation F) d m s y z _ _ a b refl low (to_negation F d m s a _ l)
+      (to_negation F (suc d) m y b z r))
   joined IsDistinctFrom l =
       from_predicate F d m s _ z (
         a,
@@ -222,7 +255,22 @@ module _ (F : Rule) (d : ℕ) (m : Limit → ℕ) (s y z : List Token) (a b : Tr
           (
             binary IsDistinctFrom a b,
             z,
-            (λ c. low, (_, refl, inr (inr (_, refl, (y, refl, (b, z, to_concatenation F (suc d) m y b z r, (refl, refl))))))),
+            (
+              λ c. low,
+              (
+                _,
+                refl,
+                inr (inr (
+                  _,
+                  refl,
+                  (
+                    y,
+                    refl,
+                    (b, z, to_concatenation F (suc d) m y b z r, (refl, refl)),
+                  ),
+                )),
+              ),
+            ),
             (refl, refl),
           ),
         ),
@@ -237,7 +285,26 @@ module _ (F : Rule) (d : ℕ) (m : Limit → ℕ) (s y z : List Token) (a b : Tr
           (
             binary IsNotDistinctFrom a b,
             z,
-            (λ c. low, (_, refl, inl (_, refl, inr (_, refl, (y, refl, (b, z, to_concatenation F (suc d) m y b z r, (refl, refl))))))),
+            (
+              λ c. low,
+              (
+                _,
+                refl,
+                inl (
+                  _,
+                  refl,
+                  inr (
+                    _,
+                    refl,
+                    (
+                      y,
+                      refl,
+                      (b, z, to_concatenation F (suc d) m y b z r, (refl, refl)),
+                    ),
+                  ),
+                ),
+              ),
+            ),
             (refl, refl),
           ),
         ),
@@ -257,11 +324,14 @@ module _ (F : Rule) (d : ℕ) (m : Limit → ℕ) (s y z : List Token) (a b : Tr
           ),
         ),
       ))
-  joined Concat l = from_concatenation F d m s _ z (chained concat_op (sum F) d m s y z _ _ a b refl low (to_sum F d m s a _ l) (to_sum F (suc d) m y b z r))
+  joined Concat l =
+      from_concatenation F d m s _ z (chained concat_op (sum F) d m s y z _ _ a b refl low (to_sum F d m s a _ l)
+      (to_sum F (suc d) m y b z r))
   joined (Compute op) l = computed op l
 
 -- in brackets
-bracketed : (F : Rule) (d : ℕ) (m : Limit → ℕ) (s z : List Token) (v : Tree) → disjunction F d m s v (Sign sign.Close ∷ z) →
+bracketed : (F : Rule) (d : ℕ) (m : Limit → ℕ) (s z : List Token) (v : Tree) →
+    disjunction F d m s v (Sign sign.Close ∷ z) →
     factor_over F d m (Sign sign.Open ∷ s) v z
 unfolding factor_over bracket
 bracketed F d m s z v l = inr (s, refl, (v, Sign sign.Close ∷ z, l, (z, refl, (refl, refl))))
@@ -270,33 +340,93 @@ negated : (F : Rule) (d : ℕ) (m : Limit → ℕ) (s z : List Token) (a : Tree)
     disjunction F d m (Keyword word.Not ∷ s) (unary Not a) z
 unfolding negation negation_over
 negated F d m s z a low l =
-    up_disjunction F d m _ _ z (up_conjunction F d m _ _ z
-    (suc (suc zero), inr (inl (λ c. low, (s, refl, (a, z, inr (inr (to_predicate F (suc d) m s a z l)), (refl, refl)))))))
+    up_disjunction F d m _ _ z (up_conjunction F d m _ _ z (
+      suc (suc zero),
+      inr (inl (
+        λ c. low,
+        (
+          s,
+          refl,
+          (
+            a,
+            z,
+            inr (inr (to_predicate F (suc d) m s a z l)),
+            (refl, refl),
+          ),
+        ),
+      )),
+    ))
 
 is_null : (F : Rule) (d : ℕ) (m : Limit → ℕ) (s z : List Token) (a : Tree) → suc (d + height a) ≤ 64 →
     F d m s a (Keyword word.Is ∷ Keyword word.Null ∷ z) → disjunction F d m s (unary IsNull a) z
 unfolding predicate test tested
 is_null F d m s z a low l =
-    from_predicate F d m s _ z
-    (a, _, to_comparison F d m s a _ l, (suc zero, (unary IsNull a, z, (λ c. low, (_, refl, inr (inl (z, refl, (refl, refl))))), (refl, refl))))
+    from_predicate F d m s _ z (
+      a,
+      _,
+      to_comparison F d m s a _ l,
+      (
+        suc zero,
+        (
+          unary IsNull a,
+          z,
+          (λ c. low, (_, refl, inr (inl (z, refl, (refl, refl))))),
+          (refl, refl),
+        ),
+      ),
+    )
 
 is_not_null : (F : Rule) (d : ℕ) (m : Limit → ℕ) (s z : List Token) (a : Tree) → suc (d + height a) ≤ 64 →
     F d m s a (Keyword word.Is ∷ Keyword word.Not ∷ Keyword word.Null ∷ z) → disjunction F d m s (unary IsNotNull a) z
 unfolding predicate test tested
 is_not_null F d m s z a low l =
-    from_predicate F d m s _ z
-    (a, _, to_comparison F d m s a _ l, (suc zero, (unary IsNotNull a, z, (λ c. low, (_, refl, inl (_, refl, inl (z, refl, (refl, refl))))), (refl, refl))))
+    from_predicate F d m s _ z (
+      a,
+      _,
+      to_comparison F d m s a _ l,
+      (
+        suc zero,
+        (
+          unary IsNotNull a,
+          z,
+          (λ c. low, (_, refl, inl (_, refl, inl (z, refl, (refl, refl))))),
+          (refl, refl),
+        ),
+      ),
+    )
 
 -- each tree is a factor
-spells : (tree : Tree) → is_written tree ≡ true → (n d : ℕ) → height tree ≤ n → d + height tree ≤ 64 → (m : Limit → ℕ) (z : List Token) →
+spells : (tree : Tree) → is_written tree ≡ true → (n d : ℕ) → height tree ≤ n → d + height tree ≤ 64 →
+    (m : Limit → ℕ) (z : List Token) →
     tie factor_over n d m (put tree z) tree z
 unfolding factor_over leaf minus called named put
 spells (literal v) w zero d h l m z = absurd (omega (arith, h))
 spells (literal v) w (suc n) d h l m z =
-    inr (inl (inl (λ c. omega (arith, l), inl (record { head = literal_token v; is = refl; value = literal_read v w }))))
+    inr (inl (inl (
+      λ c. omega (arith, l),
+      inl (record {
+        head =
+            literal_token v;
+        is = refl;
+        value = literal_read v w;
+      }),
+    )))
 spells (column name) w zero d h l m z = absurd (omega (arith, h))
 spells (column name) w (suc n) d h l m z =
-    inr (inl (inl (λ c. omega (arith, l), inr (inr (name, z, record { head = name_token name; is = refl; value = name_read name w }, inr (refl, refl))))))
+    inr (inl (inl (
+      λ c. omega (arith, l),
+      inr (inr (
+        name,
+        z,
+        record {
+          head =
+              name_token name;
+          is = refl;
+          value = name_read name w;
+        },
+        inr (refl, refl),
+      )),
+    )))
 spells (column_of source name) w zero d h l m z = absurd (omega (arith, h))
 spells (column_of source name) w (suc n) d h l m z =
     let names = and_parts (is_free_name source) (is_free_name name) w in
@@ -306,14 +436,42 @@ spells (column_of source name) w (suc n) d h l m z =
         source,
         _,
         record { head = name_token source; is = refl; value = name_read source names.0 },
-        inl (_, refl, (name, z, record { head = name_token name; is = refl; value = name_read name names.1 }, (refl, refl))),
+        inl (
+          _,
+          refl,
+          (
+            name,
+            z,
+            record {
+              head =
+                  name_token name;
+              is = refl;
+              value = name_read name names.1;
+            },
+            (refl, refl),
+          ),
+        ),
       )),
     )))
 spells action w zero d h l m z = absurd (omega (arith, h))
-spells action w (suc n) d h l m z = inr (inl (inl (λ c. omega (arith, l), inr (inl (_, refl, (_, refl, (z, refl, (refl, refl))))))))
+spells action w (suc n) d h l m z =
+    inr (inl (inl (λ c. omega (arith, l), inr (inl (_, refl, (_, refl, (z, refl, (refl, refl))))))))
 spells (unary op a) w zero d h l m z = absurd (omega (arith, h))
 spells (unary Negate a) w (suc n) d h l m z =
-    inr (inl (inr (λ c. omega (arith, l), (put a z, refl, (a, z, spells a w n (suc d) (omega (arith, h)) (omega (arith, l)) m z, (refl, refl))))))
+    inr (inl (inr (
+      λ c. omega (arith, l),
+      (
+        put a z,
+        refl,
+        (
+          a,
+          z,
+          spells a w n (suc d) (omega (arith, h))
+              (omega (arith, l)) m z,
+          (refl, refl),
+        ),
+      ),
+    )))
 spells (unary Not a) w (suc n) d h l m z =
     inr (bracketed (tie factor_over n) d m _ z _ (negated (tie factor_over n) d m _ _ a (omega (arith, l))
     (spells a w n (suc d) (omega (arith, h)) (omega (arith, l)) m (Sign sign.Close ∷ z))))
@@ -333,7 +491,7 @@ spells (binary op a b) w (suc n) d h l m z =
     (spells a written.0 n d (omega (arith, h, left)) (omega (arith, l, left)) m _)))
 
 -- its tokens are ones that a line may have
-literal_is_token : (v : Value) → is_literal v ≡ true → is_token (literal_token v) ≡ true
+pub literal_is_token : (v : Value) → is_literal v ≡ true → is_token (literal_token v) ≡ true
 unfolding literal_token
 literal_is_token value.Null h = refl
 literal_is_token (value.Bool true) h = refl
@@ -346,11 +504,12 @@ literal_is_token (value.Big (pos n)) h = (and_parts (nat_le 2147483648 n) (nat_l
 literal_is_token (value.Big (negsuc n)) h = absurd (cc h)
 literal_is_token (value.Text text) h = h
 
-name_is_token_as : (name : List ℕ) (o : Option Reserved) → keyword_of name ≡ o → is_name name ≡ true → is_token (word_token name o) ≡ true
+name_is_token_as : (name : List ℕ) (o : Option Reserved) → keyword_of name ≡ o → is_name name ≡ true →
+    is_token (word_token name o) ≡ true
 name_is_token_as name None e h = and_from (is_name name) (is_none (keyword_of name)) h (ap is_none e)
 name_is_token_as name (Some k) e h = refl
 
-name_is_token : (name : List ℕ) → is_free_name name ≡ true → is_token (name_token name) ≡ true
+pub name_is_token : (name : List ℕ) → is_free_name name ≡ true → is_token (name_token name) ≡ true
 unfolding name_token
 name_is_token name h = name_is_token_as name (keyword_of name) refl (and_parts (is_name name) _ h).0
 
@@ -377,7 +536,8 @@ action_is_token : is_token action_name ≡ true
 unfolding merge_action is_name keyword_of keywords spelling
 action_is_token = refl
 
-put_tokens : (tree : Tree) → is_written tree ≡ true → (z : List Token) → list_all is_token z ≡ true → list_all is_token (put tree z) ≡ true
+put_tokens : (tree : Tree) → is_written tree ≡ true → (z : List Token) → list_all is_token z ≡ true →
+    list_all is_token (put tree z) ≡ true
 unfolding put
 put_tokens (literal v) w z h = and_from (is_token (literal_token v)) (list_all is_token z) (literal_is_token v w) h
 put_tokens (column name) w z h = and_from (is_token (name_token name)) (list_all is_token z) (name_is_token name w) h
@@ -389,16 +549,28 @@ put_tokens action w z h = and_from (is_token action_name) (list_all is_token z) 
 put_tokens (unary Negate a) w z h = put_tokens a w z h
 put_tokens (unary Not a) w z h = put_tokens a w (Sign sign.Close ∷ z) h
 put_tokens (unary IsNull a) w z h = put_tokens a w (Keyword word.Is ∷ Keyword word.Null ∷ Sign sign.Close ∷ z) h
-put_tokens (unary IsNotNull a) w z h = put_tokens a w (Keyword word.Is ∷ Keyword word.Not ∷ Keyword word.Null ∷ Sign sign.Close ∷ z) h
+put_tokens (unary IsNotNull a) w z h =
+    put_tokens a w (Keyword word.Is ∷ Keyword word.Not ∷ Keyword word.Null ∷ Sign sign.Close ∷ z) h
 put_tokens (binary op a b) w z h =
     let written = and_parts (is_written a) (is_written b) w in
     put_tokens a written.0 _ (put_op_tokens op _ (put_tokens b written.1 (Sign sign.Close ∷ z) h))
 
+-- an expression is spelled before any tokens that a line may have
+pub expr_spelled : (tree : Tree) → is_written tree ≡ true → height tree ≤ 64 → (z : List Token) →
+    list_all is_token z ≡ true →
+    (tokens : List Token) × (list_all is_token tokens ≡ true) × expr (λ k. 0) tokens tree z
+unfolding expr expr_at factor
+expr_spelled tree w h z a = (
+  put tree z,
+  put_tokens tree w z a,
+  up_disjunction factor 0 _ _ tree z
+      (to_conjunction factor 0 _ _ tree z (
+        height tree,
+        spells tree w (height tree) 0 (omega arith)
+            (omega (arith, h)) _ z,
+      )),
+)
+
 pub each_tree_is_spelled : (tree : Tree) → is_written tree ≡ true → height tree ≤ 64 →
     (tokens : List Token) × (list_all is_token tokens ≡ true) × expr (λ k. 0) tokens tree []
-unfolding expr expr_at factor
-each_tree_is_spelled tree w h = (
-  put tree [],
-  put_tokens tree w [] refl,
-  up_disjunction factor 0 _ _ tree [] (to_conjunction factor 0 _ _ tree [] (height tree, spells tree w (height tree) 0 (omega arith) (omega (arith, h)) _ [])),
-)
+each_tree_is_spelled tree w h = expr_spelled tree w h [] refl

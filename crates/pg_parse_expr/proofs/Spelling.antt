@@ -20,14 +20,17 @@ pub spelled_leaf : (d : ℕ) → Spelled (leaf d)
 unfolding leaf literal_of
 spelled_leaf d =
     spelled_reaches nodes (suc d) (either (one literal_of) (either called named))
-    (spelled_left (one literal_of) (either called named) (spelled_one literal_of (token.Keyword word.Null) (literal value.Null) refl))
+    (spelled_left (one literal_of) (either called named) (spelled_one literal_of (token.Keyword word.Null)
+    (literal value.Null) refl))
 
 pub spelled_factor : (d : ℕ) → Spelled (factor d)
 unfolding factor factor_over
 spelled_factor d =
-    spelled_knot factor_over d (λ F. spelled_left (either (leaf d) (minus F d)) (bracket F d) (spelled_left (leaf d) (minus F d) (spelled_leaf d)))
+    spelled_knot factor_over d (λ F. spelled_left (either (leaf d) (minus F d)) (bracket F d)
+    (spelled_left (leaf d) (minus F d) (spelled_leaf d)))
 
-spelled_chain : (op : Token → Option BinaryOp) (operand : Rule) (d : ℕ) → Spelled (operand d) → Spelled (chain op operand d)
+spelled_chain : (op : Token → Option BinaryOp) (operand : Rule) (d : ℕ) → Spelled (operand d) →
+    Spelled (chain op operand d)
 unfolding chain
 spelled_chain op operand d s =
     spelled_bind (operand d) (more (operation op operand d)) s (λ x. spelled_more (operation op operand d) x)
@@ -46,21 +49,26 @@ spelled_concatenation d = spelled_chain concat_op (sum factor) d (spelled_sum d)
 
 pub spelled_compared : (d : ℕ) (left : Tree) → Spelled (compared factor d left)
 unfolding compared
-spelled_compared d left = spelled_right (operation compare_op (concatenation factor) d left) (gives left) (spelled_gives left)
+spelled_compared d left =
+    spelled_right (operation compare_op (concatenation factor) d left) (gives left) (spelled_gives left)
 
 pub spelled_comparison : (d : ℕ) → Spelled (comparison factor d)
 unfolding comparison
-spelled_comparison d = spelled_bind (concatenation factor d) (compared factor d) (spelled_concatenation d) (λ x. spelled_compared d x)
+spelled_comparison d =
+    spelled_bind (concatenation factor d) (compared factor d) (spelled_concatenation d) (λ x. spelled_compared d x)
 
 pub spelled_predicate : (d : ℕ) → Spelled (predicate factor d)
 unfolding predicate
-spelled_predicate d = spelled_bind (comparison factor d) (more (test factor d)) (spelled_comparison d) (λ x. spelled_more (test factor d) x)
+spelled_predicate d =
+    spelled_bind (comparison factor d) (more (test factor d)) (spelled_comparison d)
+    (λ x. spelled_more (test factor d) x)
 
 pub spelled_negation : (d : ℕ) → Spelled (negation factor d)
 unfolding negation negation_over
 spelled_negation d =
     spelled_knot (negation_over factor) d
-    (λ N. spelled_right (reaches nodes (suc d) (behind_token (token.Keyword word.Not) (bind (N (suc d)) (λ a. gives (unary Not a))))) (predicate factor d) (spelled_predicate d))
+    (λ N. spelled_right (reaches nodes (suc d) (behind_token (token.Keyword word.Not)
+    (bind (N (suc d)) (λ a. gives (unary Not a))))) (predicate factor d) (spelled_predicate d))
 
 pub spelled_conjunction : (d : ℕ) → Spelled (conjunction factor d)
 unfolding conjunction

@@ -16,15 +16,19 @@ use Rattle.pg_parse_expr.specs.Places.{placed, plain, IsParsed}
 use Rattle.pg_parse_expr.specs.Tree.{Tree}
 
 -- what is left is the end of all tokens
-left_is : (all front rest : List Token) (from : ℕ) → from ≤ length all → drop from all ≡ front ++ rest → drop (length all - length rest) all ≡ rest
+left_is : (all front rest : List Token) (from : ℕ) → from ≤ length all → drop from all ≡ front ++ rest →
+    drop (length all - length rest) all ≡ rest
 left_is all front rest from fits e =
     let l = ap length e ∙ length-append front rest in
     let d = length-drop from all in
     let at : length all - length rest ≡ from + length front = omega (arith, l, d, fits) in
-    rw at (sym (drop-drop (length front) from all) ∙ (ap (λ xs. drop (length front) xs) e ∙ drop-append_seam front rest))
+    rw at (sym (drop-drop (length front) from all) ∙ (ap (λ xs. drop
+    (length front) xs) e ∙ drop-append_seam front rest))
 
-pub parsed_ok : (tokens : List Spanned) (from end behind : ℕ) (tree : Tree) (all rest : List Token) → all ≡ plain tokens → length all ≡ length tokens → from ≤ length all →
-    Reads (expr_at 0) behind_expr (drop from all) (read tree rest) → behind ≡ length all - length rest → IsParsed tokens from end (Ok (tree, behind))
+pub parsed_ok : (tokens : List Spanned) (from end behind : ℕ) (tree : Tree) (all rest : List Token) →
+    all ≡ plain tokens → length all ≡ length tokens → from ≤ length all →
+    Reads (expr_at 0) behind_expr (drop from all) (read tree rest) → behind ≡ length all - length rest →
+    IsParsed tokens from end (Ok (tree, behind))
 unfolding expr
 parsed_ok tokens from end behind tree all rest e n fits r b =
     let f : IsRead (expr_at 0) behind_expr (drop from all) tree rest = r.is in
@@ -37,7 +41,8 @@ parsed_ok tokens from end behind tree all rest e n fits r b =
           (subst (λ z. Reads (expr_at 0) behind_expr (drop from all) (read tree z)) (sym same) r),
     )
 
-pub parsed_err : (tokens : List Spanned) (from end : ℕ) (all : List Token) (spans : List Span) (f : Fault) (e : ParseFault) → all ≡ plain tokens → spans ≡ map span_of tokens →
+pub parsed_err : (tokens : List Spanned) (from end : ℕ) (all : List Token) (spans : List Span) (f : Fault)
+    (e : ParseFault) → all ≡ plain tokens → spans ≡ map span_of tokens →
     Reads (expr_at 0) behind_expr (drop from all) (failed f) → e ≡ placed spans end f → IsParsed tokens from end (Err e)
 unfolding expr
 parsed_err tokens from end all spans f e h s r p =

@@ -26,7 +26,8 @@ tree_code (column a0) = gcons (gnum 1) ((coded_list coded_ℕ).code a0)
 tree_code (column_of a0 a1) = gcons (gnum 2) (gcons ((coded_list coded_ℕ).code a0) ((coded_list coded_ℕ).code a1))
 tree_code action = gcons (gnum 3) gnil
 tree_code (unary a0 a1) = gcons (gnum 4) (gcons (unary_op.the_row.coded.code a0) (tree_code a1))
-tree_code (binary a0 a1 a2) = gcons (gnum 5) (gcons (binary_op.the_row.coded.code a0) (gcons (tree_code a1) (tree_code a2)))
+tree_code (binary a0 a1 a2) =
+    gcons (gnum 5) (gcons (binary_op.the_row.coded.code a0) (gcons (tree_code a1) (tree_code a2)))
 
 pub tree_inj : (x y : Tree) → tree_code x ≡ tree_code y → x ≡ y
 tree_inj (literal a0) (literal b0) p = λ i. literal (value.the_row.coded.inj a0 b0 (ap (λ g. tail g) p) i)
@@ -43,7 +44,9 @@ tree_inj (column a0) (unary b0 b1) p = absurd (apart 1 4 p (omega arith))
 tree_inj (column a0) (binary b0 b1 b2) p = absurd (apart 1 5 p (omega arith))
 tree_inj (column_of a0 a1) (literal b0) p = absurd (apart 2 0 p (omega arith))
 tree_inj (column_of a0 a1) (column b0) p = absurd (apart 2 1 p (omega arith))
-tree_inj (column_of a0 a1) (column_of b0 b1) p = λ i. column_of ((coded_list coded_ℕ).inj a0 b0 (ap (λ g. head (tail g)) p) i) ((coded_list coded_ℕ).inj a1 b1 (ap (λ g. tail (tail g)) p) i)
+tree_inj (column_of a0 a1) (column_of b0 b1) p =
+    λ i. column_of ((coded_list coded_ℕ).inj a0 b0 (ap (λ g. head (tail g)) p) i)
+    ((coded_list coded_ℕ).inj a1 b1 (ap (λ g. tail (tail g)) p) i)
 tree_inj (column_of a0 a1) action p = absurd (apart 2 3 p (omega arith))
 tree_inj (column_of a0 a1) (unary b0 b1) p = absurd (apart 2 4 p (omega arith))
 tree_inj (column_of a0 a1) (binary b0 b1 b2) p = absurd (apart 2 5 p (omega arith))
@@ -57,14 +60,18 @@ tree_inj (unary a0 a1) (literal b0) p = absurd (apart 4 0 p (omega arith))
 tree_inj (unary a0 a1) (column b0) p = absurd (apart 4 1 p (omega arith))
 tree_inj (unary a0 a1) (column_of b0 b1) p = absurd (apart 4 2 p (omega arith))
 tree_inj (unary a0 a1) action p = absurd (apart 4 3 p (omega arith))
-tree_inj (unary a0 a1) (unary b0 b1) p = λ i. unary (unary_op.the_row.coded.inj a0 b0 (ap (λ g. head (tail g)) p) i) (tree_inj a1 b1 (ap (λ g. tail (tail g)) p) i)
+tree_inj (unary a0 a1) (unary b0 b1) p =
+    λ i. unary (unary_op.the_row.coded.inj a0 b0 (ap (λ g. head (tail g)) p) i)
+    (tree_inj a1 b1 (ap (λ g. tail (tail g)) p) i)
 tree_inj (unary a0 a1) (binary b0 b1 b2) p = absurd (apart 4 5 p (omega arith))
 tree_inj (binary a0 a1 a2) (literal b0) p = absurd (apart 5 0 p (omega arith))
 tree_inj (binary a0 a1 a2) (column b0) p = absurd (apart 5 1 p (omega arith))
 tree_inj (binary a0 a1 a2) (column_of b0 b1) p = absurd (apart 5 2 p (omega arith))
 tree_inj (binary a0 a1 a2) action p = absurd (apart 5 3 p (omega arith))
 tree_inj (binary a0 a1 a2) (unary b0 b1) p = absurd (apart 5 4 p (omega arith))
-tree_inj (binary a0 a1 a2) (binary b0 b1 b2) p = λ i. binary (binary_op.the_row.coded.inj a0 b0 (ap (λ g. head (tail g)) p) i) (tree_inj a1 b1 (ap (λ g. head (tail (tail g))) p) i) (tree_inj a2 b2 (ap (λ g. tail (tail (tail g))) p) i)
+tree_inj (binary a0 a1 a2) (binary b0 b1 b2) p =
+    λ i. binary (binary_op.the_row.coded.inj a0 b0 (ap (λ g. head (tail g)) p) i)
+    (tree_inj a1 b1 (ap (λ g. head (tail (tail g))) p) i) (tree_inj a2 b2 (ap (λ g. tail (tail (tail g))) p) i)
 
 abbrev pub coded_tree : Coded Tree
 coded_tree = record { code = tree_code; inj = tree_inj }

@@ -21,7 +21,8 @@ Rule = ℕ → Lang Token Tree
 -- behind a tree: one operator, and its right operand
 unfoldable pub operation : (Token → Option BinaryOp) → Rule → ℕ → Tree → Lang Token Tree
 operation op operand d left =
-    reaches nodes (suc (d + height left)) (bind (one op) (λ o. bind (operand (suc d)) (λ right. gives (binary o left right))))
+    reaches nodes (suc (d + height left)) (bind (one op) (λ o. bind (operand (suc d))
+    (λ right. gives (binary o left right))))
 
 -- operands with operators of one level between them, which group to the left
 unfoldable pub chain : (Token → Option BinaryOp) → Rule → Rule
@@ -51,14 +52,16 @@ comparison factor d = bind (concatenation factor d) (compared factor d)
 unfoldable pub tested : UnaryOp → BinaryOp → Rule → ℕ → Tree → Lang Token Tree
 tested null distinct factor d left =
     either (token (Keyword word.Null) (gives (unary null left)))
-    (token (Keyword word.Distinct) (token (Keyword word.From) (bind (concatenation factor (suc d)) (λ right. gives (binary distinct left right)))))
+    (token (Keyword word.Distinct) (token (Keyword word.From)
+    (bind (concatenation factor (suc d)) (λ right. gives (binary distinct left right)))))
 
 -- IS [NOT] NULL, IS [NOT] DISTINCT FROM
 unfoldable pub test : Rule → ℕ → Tree → Lang Token Tree
 test factor d left =
     reaches nodes (suc (d + height left))
     (token (Keyword word.Is)
-    (either (token (Keyword word.Not) (tested IsNotNull IsNotDistinctFrom factor d left)) (tested IsNull IsDistinctFrom factor d left)))
+    (either (token (Keyword word.Not) (tested IsNotNull IsNotDistinctFrom factor d left))
+    (tested IsNull IsDistinctFrom factor d left)))
 
 unfoldable pub predicate : Over
 predicate factor d = bind (comparison factor d) (more (test factor d))
@@ -66,7 +69,8 @@ predicate factor d = bind (comparison factor d) (more (test factor d))
 -- NOT, any number of times, before a predicate
 unfoldable pub negation_over : Rule → Rule → Rule
 negation_over factor negation d =
-    either (reaches nodes (suc d) (token (Keyword word.Not) (bind (negation (suc d)) (λ a. gives (unary Not a))))) (predicate factor d)
+    either (reaches nodes (suc d) (token (Keyword word.Not) (bind (negation (suc d)) (λ a. gives (unary Not a)))))
+    (predicate factor d)
 
 unfoldable pub negation : Over
 negation factor = knot (negation_over factor)
@@ -80,7 +84,8 @@ disjunction factor = chain or_op (conjunction factor)
 -- a column, with or without the name of its source
 unfoldable pub named : Lang Token Tree
 named =
-    bind (one name_of) (λ name. either (token (Sign sign.Dot) (bind (one name_of) (λ own. gives (column_of name own)))) (gives (column name)))
+    bind (one name_of) (λ name. either (token (Sign sign.Dot) (bind (one name_of) (λ own. gives (column_of name own))))
+    (gives (column name)))
 
 -- `merge_action()`
 unfoldable pub called : Lang Token Tree

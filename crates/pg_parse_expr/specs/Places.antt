@@ -34,6 +34,7 @@ plain tokens = map (λ s. s.token) tokens
 -- the expression that begins at the token `from` ends before the token `behind`, or a fault stands at its place
 abbrev pub IsParsed : List Spanned → ℕ → ℕ → Result (Tree × ℕ) ParseFault → Type 0
 IsParsed tokens from end (Ok p) =
-    (from ≤ p.1) × (p.1 ≤ length tokens) × Reads expr behind_expr (drop from (plain tokens)) (read p.0 (drop p.1 (plain tokens)))
+    (from ≤ p.1) × (p.1 ≤ length tokens) × Reads expr behind_expr (drop from (plain tokens))
+    (read p.0 (drop p.1 (plain tokens)))
 IsParsed tokens from end (Err e) =
     (f : Fault) × Reads expr behind_expr (drop from (plain tokens)) (failed f) × (e ≡ placed (map span_of tokens) end f)

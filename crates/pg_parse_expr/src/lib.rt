@@ -12,7 +12,7 @@ mod whole;
 pub use laws::{at_most_one_tree, each_tree_is_spelled, each_tree_is_within};
 pub use parse::expr;
 pub use tree::{ExprTree, Node};
-pub use whole::{ParseFault, parse_expr};
+pub use whole::{ParseFault, parse_expr, placed};
 
 #[cfg(test)]
 mod tests;

@@ -8,14 +8,14 @@ use pg_grammar::Fault;
 use pg_lexer::{Span, Tokens};
 use std::alloc::Global;
 
-/// Why tokens are no expression; places count the line's bytes from 1.
+/// Why tokens are no expression, or no statement; places count the line's bytes from 1.
 #[derive(Clone, Copy, Debug, PartialEq, Eq)]
 pub enum ParseFault {
-    /// The tokens before this place begin an expression, those up to it do not.
+    /// The tokens before this place begin one, those up to it do not.
     Syntax(u32),
     /// The token here makes a path of 65 nodes.
     Depth(u32),
-    /// The token here begins the ninth source; no expression has one.
+    /// The source that begins here is the ninth of its statement; no expression has one.
     Items(u32),
     /// Memory ran out.
     Memory,
@@ -32,7 +32,9 @@ fn place(spans: &[Span], end: u32, left: usize) -> u32
     }
 }
 
-fn placed(spans: &[Span], end: u32, fault: Fault) -> ParseFault
+/// A fault with its place in the line; `spans` are those of all tokens, and `end` is the place one past
+/// the line.
+pub fn placed(spans: &[Span], end: u32, fault: Fault) -> ParseFault
     ensures { result ≡ placed_fault spans.now end fault }
 {
     match fault {
