@@ -1,0 +1,421 @@
+-- Sources in brackets
+use Rattle.std.proofs.Common.{◌≡◌, ◌∷◌, ◌+◌, ℕ, suc, true, false, List, [], length, Some, None, refl, sym, ap, ◌∙◌}
+use Rattle.pg_grammar.specs.declared.fault.Fault.{Fault}
+use Rattle.pg_grammar.specs.declared.fault.Fault.TheVariants.{Syntax}
+use Rattle.pg_grammar.specs.Languages.{Lang, gives, token, one, bind, either}
+use Rattle.pg_grammar.specs.Answers.{next, Misses, Seen, read, failed, Reads}
+use Rattle.pg_grammar.proofs.Words.{Starts, Bars, Spelled, starts_gives, starts_token, spelled_gives, spelled_token, spelled_bind, bars_token, bars_one, bars_bind}
+use Rattle.pg_grammar.proofs.Combining.{reads_gives, reads_refused, reads_bind_failed, leads_left, leads_right}
+use Rattle.pg_lexer.specs.declared.keyword.Keyword.TheVariants as k
+use Rattle.pg_lexer.specs.declared.sign.Sign.TheVariants as s
+use Rattle.pg_lexer.specs.declared.token.Token.{Token}
+use Rattle.pg_lexer.specs.declared.token.Token.TheVariants as t
+use Rattle.pg_parse_expr.specs.Behind.{has}
+use Rattle.pg_parse_expr.specs.Operators.{name_of}
+use Rattle.pg_parse_expr.specs.Tree.{Tree}
+use Rattle.pg_parse_stmt.specs.Behind.{any, behind_table, behind_tuples, behind_subselect}
+use Rattle.pg_parse_stmt.specs.Forms.{word, sign, in_brackets}
+use Rattle.pg_parse_stmt.specs.Spellings.{spelled_name}
+use Rattle.pg_parse_stmt.specs.Words.{bare_name_of}
+use Rattle.pg_parse_stmt.proofs.Lists.{starts_any}
+use Rattle.pg_parse_stmt.proofs.Steps.{word_read, word_missed, part_read}
+use Rattle.std.proofs.lemmas.Bool.{false≢true}
+use Rattle.std.proofs.Common.{◌≤◌, arith, subst}
+use Rattle.pg_grammar.specs.declared.fault.Fault.TheVariants.{Many}
+use Rattle.pg_grammar.specs.Limits.{sources}
+use Rattle.pg_grammar.proofs.Words.{begun_bind, begun_one, begun_token, begun_left, begun_right, bars_reaches, bars_either, spelled_left, spelled_reaches}
+use Rattle.pg_grammar.proofs.Leading.{reads_narrow}
+use Rattle.pg_grammar.proofs.Combining.{reads_over, leads_reaches}
+use Rattle.pg_parse_stmt.specs.Grammar.{name, names, alias, tuples, table_named, table_ref, subselect, values_source, query_source, bracketed, source}
+use Rattle.pg_parse_stmt.specs.Spellings.{spelled_tuples, spelled_in_brackets, spelled_names}
+use Rattle.pg_parse_stmt.specs.declared.tree.TableRef.{TableRef}
+use Rattle.pg_parse_stmt.specs.declared.tree.Source.{Source}
+use Rattle.pg_parse_stmt.specs.declared.tree.Source.TheVariants as source_of
+use Rattle.pg_parse_stmt.specs.declared.tree.Subselect.{Subselect}
+use Rattle.pg_parse_stmt.proofs.Subselects.{spelled_subselect}
+use Rattle.pg_parse_stmt.proofs.Tables.{spelled_named, some_name, no_name_first}
+use Rattle.pg_parse_stmt.proofs.Following.{close_behind_subselect, close_behind_tuples}
+
+spelled_alias : Spelled alias
+unfolding alias
+spelled_alias = spelled_left (word k.As name) (one bare_name_of) (spelled_token (t.Keyword k.As) name spelled_name)
+
+values_source_made : (v1 : List (List Tree)) → (v3 : List ℕ) → (v4 : List (List ℕ)) → Source
+values_source_made v1 v3 v4 = source_of.Values (record { rows = v1; alias = v3; columns = v4 })
+
+values_source_4 : (v1 : List (List Tree)) → (v3 : List ℕ) → (v4 : List (List ℕ)) → Lang Token Source
+values_source_4 v1 v3 v4 = gives (values_source_made v1 v3 v4)
+
+spelled_values_source_4 : (v1 : List (List Tree)) → (v3 : List ℕ) → (v4 : List (List ℕ)) →
+    Spelled (values_source_4 v1 v3 v4)
+unfolding values_source_4
+spelled_values_source_4 v1 v3 v4 = spelled_gives (values_source_made v1 v3 v4)
+
+values_source_3 : (v1 : List (List Tree)) → (v3 : List ℕ) → Lang Token Source
+values_source_3 v1 v3 = bind (in_brackets names) (values_source_4 v1 v3)
+
+spelled_values_source_3 : (v1 : List (List Tree)) → (v3 : List ℕ) → Spelled (values_source_3 v1 v3)
+unfolding values_source_3
+spelled_values_source_3 v1 v3 =
+    spelled_bind (in_brackets names) (values_source_4 v1 v3) (spelled_in_brackets names spelled_names)
+    (λ u. spelled_values_source_4 v1 v3 u)
+
+values_source_2 : (v1 : List (List Tree)) → Lang Token Source
+values_source_2 v1 = bind alias (values_source_3 v1)
+
+spelled_values_source_2 : (v1 : List (List Tree)) → Spelled (values_source_2 v1)
+unfolding values_source_2
+spelled_values_source_2 v1 = spelled_bind alias (values_source_3 v1) spelled_alias (λ u. spelled_values_source_3 v1 u)
+
+values_source_1 : (v1 : List (List Tree)) → Lang Token Source
+values_source_1 v1 = token (t.Sign s.Close) (values_source_2 v1)
+
+spelled_values_source_1 : (v1 : List (List Tree)) → Spelled (values_source_1 v1)
+unfolding values_source_1
+spelled_values_source_1 v1 = spelled_token (t.Sign s.Close) (values_source_2 v1) (spelled_values_source_2 v1)
+
+pub spelled_values_source : Spelled (values_source)
+unfolding values_source values_source_1 values_source_2 values_source_3 values_source_4 values_source_made
+spelled_values_source = spelled_bind tuples (values_source_1) spelled_tuples (λ u. spelled_values_source_1 u)
+
+starts_values_source_1 : (v1 : List (List Tree)) → Starts behind_tuples (values_source_1 v1) any
+unfolding values_source_1 values_source_2 values_source_3 values_source_4 values_source_made
+starts_values_source_1 v1 = starts_token behind_tuples any (t.Sign s.Close) (values_source_2 v1) close_behind_tuples
+
+starts_values_source_3 : (v1 : List (List Tree)) → (v3 : List ℕ) → Starts any (values_source_3 v1 v3) any
+unfolding values_source_1 values_source_2 values_source_3 values_source_4 values_source_made
+starts_values_source_3 v1 v3 = starts_any (values_source_3 v1 v3) any
+
+starts_values_source_4 : (v1 : List (List Tree)) → (v3 : List ℕ) → (v4 : List (List ℕ)) →
+    Starts any (values_source_4 v1 v3 v4) any
+unfolding values_source_1 values_source_2 values_source_3 values_source_4 values_source_made
+starts_values_source_4 v1 v3 v4 = starts_any (values_source_4 v1 v3 v4) any
+
+pub values_source_at_0 : (xs : List Token) (f : Fault) → Reads tuples behind_tuples xs (failed f) →
+    Reads (values_source) any xs (failed f)
+unfolding values_source values_source_1 values_source_2 values_source_3 values_source_4 values_source_made
+values_source_at_0 xs f e1 =
+    reads_bind_failed tuples (values_source_1) behind_tuples any xs f e1 (λ v1. starts_values_source_1 v1)
+    (λ v1. spelled_values_source_1 v1)
+
+pub values_source_at_1 : (xs y1 : List Token) (v1 : List (List Tree)) (l : ℕ) →
+    Reads tuples behind_tuples xs (read v1 y1) →
+    Misses (t.Sign s.Close) y1 →
+    l ≡ length y1 →
+    Reads (values_source) any xs (failed (Syntax l))
+unfolding values_source values_source_1 values_source_2 values_source_3 values_source_4 values_source_made
+values_source_at_1 xs y1 v1 l e1 e2 q =
+    part_read tuples (values_source_1) behind_tuples any xs y1 v1 (failed (Syntax l)) e1
+    (λ v1. starts_values_source_1 v1)
+    (word_missed (t.Sign s.Close) (values_source_2 v1) any y1 l e2 q (spelled_values_source_2 v1))
+
+pub values_source_at_2 : (xs y1 y2 : List Token) (v1 : List (List Tree)) (f : Fault) →
+    Reads tuples behind_tuples xs (read v1 y1) →
+    y1 ≡ (t.Sign s.Close) ∷ y2 →
+    Reads alias any y2 (failed f) →
+    Reads (values_source) any xs (failed f)
+unfolding values_source values_source_1 values_source_2 values_source_3 values_source_4 values_source_made
+values_source_at_2 xs y1 y2 v1 f e1 e2 e3 =
+    part_read tuples (values_source_1) behind_tuples any xs y1 v1 (failed f) e1 (λ v1. starts_values_source_1 v1)
+    (word_read (t.Sign s.Close) (values_source_2 v1) any y1 y2 (failed f) e2
+    (reads_bind_failed alias (values_source_3 v1) any any y2 f e3 (λ v3. starts_values_source_3 v1 v3)
+    (λ v3. spelled_values_source_3 v1 v3)))
+
+pub values_source_at_3 : (xs y1 y2 y3 : List Token) (v1 : List (List Tree)) (v3 : List ℕ) (f : Fault) →
+    Reads tuples behind_tuples xs (read v1 y1) →
+    y1 ≡ (t.Sign s.Close) ∷ y2 →
+    Reads alias any y2 (read v3 y3) →
+    Reads (in_brackets names) any y3 (failed f) →
+    Reads (values_source) any xs (failed f)
+unfolding values_source values_source_1 values_source_2 values_source_3 values_source_4 values_source_made
+values_source_at_3 xs y1 y2 y3 v1 v3 f e1 e2 e3 e4 =
+    part_read tuples (values_source_1) behind_tuples any xs y1 v1 (failed f) e1 (λ v1. starts_values_source_1 v1)
+    (word_read (t.Sign s.Close) (values_source_2 v1) any y1 y2 (failed f) e2
+    (part_read alias (values_source_3 v1) any any y2 y3 v3 (failed f) e3 (λ v3. starts_values_source_3 v1 v3)
+    (reads_bind_failed (in_brackets names) (values_source_4 v1 v3) any any y3 f e4
+    (λ v4. starts_values_source_4 v1 v3 v4) (λ v4. spelled_values_source_4 v1 v3 v4))))
+
+pub values_source_at_4 : (xs y1 y2 y3 y4 : List Token) (v1 : List (List Tree)) (v3 : List ℕ) (v4 : List (List ℕ)) →
+    Reads tuples behind_tuples xs (read v1 y1) →
+    y1 ≡ (t.Sign s.Close) ∷ y2 →
+    Reads alias any y2 (read v3 y3) →
+    Reads (in_brackets names) any y3 (read v4 y4) →
+    Reads (values_source) any xs (read (source_of.Values (record { rows = v1; alias = v3; columns = v4 })) y4)
+unfolding values_source values_source_1 values_source_2 values_source_3 values_source_4 values_source_made
+values_source_at_4 xs y1 y2 y3 y4 v1 v3 v4 e1 e2 e3 e4 =
+    part_read tuples (values_source_1) behind_tuples any xs y1 v1
+    (read (source_of.Values (record { rows = v1; alias = v3; columns = v4 })) y4) e1 (λ v1. starts_values_source_1 v1)
+    (word_read (t.Sign s.Close) (values_source_2 v1) any y1 y2
+    (read (source_of.Values (record { rows = v1; alias = v3; columns = v4 })) y4) e2
+    (part_read alias (values_source_3 v1) any any y2 y3 v3 (read
+    (source_of.Values (record { rows = v1; alias = v3; columns = v4 })) y4) e3 (λ v3. starts_values_source_3 v1 v3)
+    (part_read (in_brackets names) (values_source_4 v1 v3) any any y3 y4 v4
+    (read (source_of.Values (record { rows = v1; alias = v3; columns = v4 })) y4) e4
+    (λ v4. starts_values_source_4 v1 v3 v4)
+    (reads_gives (values_source_made v1 v3 v4) (values_source_made v1 v3 v4) any y4 refl))))
+
+query_source_made : (n : ℕ) → (v1 : Subselect) → (v3 : List ℕ) → Source
+query_source_made n v1 v3 = source_of.Query (record { query = v1; alias = v3 })
+
+query_source_3 : (n : ℕ) → (v1 : Subselect) → (v3 : List ℕ) → Lang Token Source
+query_source_3 n v1 v3 = gives (query_source_made n v1 v3)
+
+spelled_query_source_3 : (n : ℕ) → (v1 : Subselect) → (v3 : List ℕ) → Spelled (query_source_3 n v1 v3)
+unfolding query_source_3
+spelled_query_source_3 n v1 v3 = spelled_gives (query_source_made n v1 v3)
+
+query_source_2 : (n : ℕ) → (v1 : Subselect) → Lang Token Source
+query_source_2 n v1 = bind alias (query_source_3 n v1)
+
+spelled_query_source_2 : (n : ℕ) → (v1 : Subselect) → Spelled (query_source_2 n v1)
+unfolding query_source_2
+spelled_query_source_2 n v1 =
+    spelled_bind alias (query_source_3 n v1) spelled_alias (λ u. spelled_query_source_3 n v1 u)
+
+query_source_1 : (n : ℕ) → (v1 : Subselect) → Lang Token Source
+query_source_1 n v1 = token (t.Sign s.Close) (query_source_2 n v1)
+
+spelled_query_source_1 : (n : ℕ) → (v1 : Subselect) → Spelled (query_source_1 n v1)
+unfolding query_source_1
+spelled_query_source_1 n v1 = spelled_token (t.Sign s.Close) (query_source_2 n v1) (spelled_query_source_2 n v1)
+
+pub spelled_query_source : (n : ℕ) → Spelled (query_source n)
+unfolding query_source query_source_1 query_source_2 query_source_3 query_source_made
+spelled_query_source n =
+    spelled_bind (subselect n) (query_source_1 n) (spelled_subselect n) (λ u. spelled_query_source_1 n u)
+
+starts_query_source_1 : (n : ℕ) → (v1 : Subselect) → Starts behind_subselect (query_source_1 n v1) any
+unfolding query_source_1 query_source_2 query_source_3 query_source_made
+starts_query_source_1 n v1 =
+    starts_token behind_subselect any (t.Sign s.Close) (query_source_2 n v1) close_behind_subselect
+
+starts_query_source_3 : (n : ℕ) → (v1 : Subselect) → (v3 : List ℕ) → Starts any (query_source_3 n v1 v3) any
+unfolding query_source_1 query_source_2 query_source_3 query_source_made
+starts_query_source_3 n v1 v3 = starts_any (query_source_3 n v1 v3) any
+
+pub query_source_at_0 : (n : ℕ) (xs : List Token) (f : Fault) → Reads (subselect n) behind_subselect xs (failed f) →
+    Reads (query_source n) any xs (failed f)
+unfolding query_source query_source_1 query_source_2 query_source_3 query_source_made
+query_source_at_0 n xs f e1 =
+    reads_bind_failed (subselect n) (query_source_1 n) behind_subselect any xs f e1 (λ v1. starts_query_source_1 n v1)
+    (λ v1. spelled_query_source_1 n v1)
+
+pub query_source_at_1 : (n : ℕ) (xs y1 : List Token) (v1 : Subselect) (l : ℕ) →
+    Reads (subselect n) behind_subselect xs (read v1 y1) →
+    Misses (t.Sign s.Close) y1 →
+    l ≡ length y1 →
+    Reads (query_source n) any xs (failed (Syntax l))
+unfolding query_source query_source_1 query_source_2 query_source_3 query_source_made
+query_source_at_1 n xs y1 v1 l e1 e2 q =
+    part_read (subselect n) (query_source_1 n) behind_subselect any xs y1 v1 (failed (Syntax l)) e1
+    (λ v1. starts_query_source_1 n v1)
+    (word_missed (t.Sign s.Close) (query_source_2 n v1) any y1 l e2 q (spelled_query_source_2 n v1))
+
+pub query_source_at_2 : (n : ℕ) (xs y1 y2 : List Token) (v1 : Subselect) (f : Fault) →
+    Reads (subselect n) behind_subselect xs (read v1 y1) →
+    y1 ≡ (t.Sign s.Close) ∷ y2 →
+    Reads alias any y2 (failed f) →
+    Reads (query_source n) any xs (failed f)
+unfolding query_source query_source_1 query_source_2 query_source_3 query_source_made
+query_source_at_2 n xs y1 y2 v1 f e1 e2 e3 =
+    part_read (subselect n) (query_source_1 n) behind_subselect any xs y1 v1 (failed f) e1
+    (λ v1. starts_query_source_1 n v1)
+    (word_read (t.Sign s.Close) (query_source_2 n v1) any y1 y2 (failed f) e2
+    (reads_bind_failed alias (query_source_3 n v1) any any y2 f e3 (λ v3. starts_query_source_3 n v1 v3)
+    (λ v3. spelled_query_source_3 n v1 v3)))
+
+pub query_source_at_3 : (n : ℕ) (xs y1 y2 y3 : List Token) (v1 : Subselect) (v3 : List ℕ) →
+    Reads (subselect n) behind_subselect xs (read v1 y1) →
+    y1 ≡ (t.Sign s.Close) ∷ y2 →
+    Reads alias any y2 (read v3 y3) →
+    Reads (query_source n) any xs (read (source_of.Query (record { query = v1; alias = v3 })) y3)
+unfolding query_source query_source_1 query_source_2 query_source_3 query_source_made
+query_source_at_3 n xs y1 y2 y3 v1 v3 e1 e2 e3 =
+    part_read (subselect n) (query_source_1 n) behind_subselect any xs y1 v1
+    (read (source_of.Query (record { query = v1; alias = v3 })) y3) e1 (λ v1. starts_query_source_1 n v1)
+    (word_read (t.Sign s.Close) (query_source_2 n v1) any y1 y2
+    (read (source_of.Query (record { query = v1; alias = v3 })) y3) e2
+    (part_read alias (query_source_3 n v1) any any y2 y3 v3 (read
+    (source_of.Query (record { query = v1; alias = v3 })) y3) e3 (λ v3. starts_query_source_3 n v1 v3)
+    (reads_gives (query_source_made n v1 v3) (query_source_made n v1 v3) any y3 refl)))
+
+-- behind "("
+pub spelled_bracketed : (n : ℕ) → Spelled (bracketed n)
+unfolding bracketed
+spelled_bracketed n =
+    spelled_left (word k.Values values_source) (word k.Select (query_source n))
+    (spelled_token (t.Keyword k.Values) values_source spelled_values_source)
+
+values_no_select : (xs ys : List Token) → xs ≡ t.Keyword k.Values ∷ ys → next xs ≡ Some (t.Keyword k.Select) → ⊥
+values_no_select xs ys e n = cc (ap next e, n)
+
+bracketed_values : (n : ℕ) (xs ys : List Token) (o : Seen Token Source) → xs ≡ t.Keyword k.Values ∷ ys →
+    Reads values_source any ys o →
+    Reads (bracketed n) any xs o
+unfolding bracketed
+bracketed_values n xs ys o e r =
+    (leads_left (word k.Values values_source) (word k.Select (query_source n)) any xs
+    (bars_token any (t.Keyword k.Select) (query_source n) 0 xs (values_no_select xs ys e))).to o
+    (word_read (t.Keyword k.Values) values_source any xs ys o e r)
+
+bracketed_select : (n : ℕ) (xs ys : List Token) (o : Seen Token Source) → Misses (t.Keyword k.Values) xs →
+    xs ≡ t.Keyword k.Select ∷ ys →
+    Reads (query_source n) any ys o → Reads (bracketed n) any xs o
+unfolding bracketed
+bracketed_select n xs ys o miss e r =
+    (leads_right (word k.Values values_source) (word k.Select (query_source n)) any xs
+    (bars_token any (t.Keyword k.Values) values_source 0 xs (λ h. miss.misses h))).to o
+    (word_read (t.Keyword k.Select) (query_source n) any xs ys o e r)
+
+pub bracketed_values_read : (n : ℕ) (xs ys zs : List Token) (v : Source) → xs ≡ t.Keyword k.Values ∷ ys →
+    Reads values_source any ys (read v zs) →
+    Reads (bracketed n) any xs (read v zs)
+bracketed_values_read n xs ys zs v e r = bracketed_values n xs ys (read v zs) e r
+
+pub bracketed_values_failed : (n : ℕ) (xs ys : List Token) (f : Fault) → xs ≡ t.Keyword k.Values ∷ ys →
+    Reads values_source any ys (failed f) →
+    Reads (bracketed n) any xs (failed f)
+bracketed_values_failed n xs ys f e r = bracketed_values n xs ys (failed f) e r
+
+pub bracketed_select_read : (n : ℕ) (xs ys zs : List Token) (v : Source) → Misses (t.Keyword k.Values) xs →
+    xs ≡ t.Keyword k.Select ∷ ys →
+    Reads (query_source n) any ys (read v zs) → Reads (bracketed n) any xs (read v zs)
+bracketed_select_read n xs ys zs v miss e r = bracketed_select n xs ys (read v zs) miss e r
+
+pub bracketed_select_failed : (n : ℕ) (xs ys : List Token) (f : Fault) → Misses (t.Keyword k.Values) xs →
+    xs ≡ t.Keyword k.Select ∷ ys →
+    Reads (query_source n) any ys (failed f) → Reads (bracketed n) any xs (failed f)
+bracketed_select_failed n xs ys f miss e r = bracketed_select n xs ys (failed f) miss e r
+
+pub bracketed_neither : (n : ℕ) (xs : List Token) (l : ℕ) → Misses (t.Keyword k.Values) xs →
+    Misses (t.Keyword k.Select) xs → l ≡ length xs →
+    Reads (bracketed n) any xs (failed (Syntax l))
+unfolding bracketed
+bracketed_neither n xs l a b q =
+    reads_refused (bracketed n) any xs l
+    (bars_either any (word k.Values values_source) (word k.Select (query_source n)) 1 xs
+    (bars_token any (t.Keyword k.Values) values_source 0 xs (λ h. a.misses h))
+    (bars_token any (t.Keyword k.Select) (query_source n) 0 xs (λ h. b.misses h)))
+    (spelled_bracketed n) q
+
+table_made : TableRef → Lang Token Source
+table_made u = gives (source_of.Table u)
+
+spelled_table_made : (u : TableRef) → Spelled (table_made u)
+unfolding table_made
+spelled_table_made u = spelled_gives (source_of.Table u)
+
+starts_table_made : (u : TableRef) → Starts behind_table (table_made u) behind_table
+unfolding table_made
+starts_table_made u = starts_gives behind_table behind_table (source_of.Table u) (λ o e. e)
+
+open_is_no_name : (u : Token) (x : List ℕ) → u ≡ t.Sign s.Open → name_of u ≡ Some x → ⊥
+unfolding name_of
+open_is_no_name u x e h = let o : None ≡ Some x = sym (ap name_of e) ∙ h in cc o
+
+spelled_table_ref : Spelled table_ref
+unfolding table_ref
+spelled_table_ref = spelled_bind name table_named spelled_name spelled_named
+
+bars_table : (xs : List Token) → ((u : Token) (x : List ℕ) → next xs ≡ Some u → name_of u ≡ Some x → ⊥) →
+    Bars (bind table_ref table_made) behind_table 1 xs
+unfolding table_ref name
+bars_table xs h =
+    bars_bind any behind_table (bind (one name_of) table_named) table_made 1 xs
+    (bars_bind any any (one name_of) table_named 1 xs (bars_one any name_of 0 xs h)
+    (λ u. starts_any (table_named u) any))
+    (λ u. starts_any (table_made u) behind_table)
+
+spelled_choice : (n : ℕ) → Spelled (either (bind table_ref table_made) (sign s.Open (bracketed (suc n))))
+spelled_choice n =
+    spelled_left (bind table_ref table_made) (sign s.Open (bracketed (suc n)))
+    (spelled_bind table_ref table_made spelled_table_ref spelled_table_made)
+
+-- a table
+source_table : (n : ℕ) (xs : List Token) (o : Seen Token Source) → suc n ≤ 8 → Misses (t.Sign s.Open) xs →
+    Reads (bind table_ref table_made) behind_table xs o →
+    Reads (source n) behind_table xs o
+unfolding source table_made
+source_table n xs o le miss r =
+    (leads_reaches sources (suc n) (either (bind table_ref table_made)
+    (sign s.Open (bracketed (suc n)))) behind_table xs le).to o
+    ((leads_left (bind table_ref table_made) (sign s.Open (bracketed (suc n))) behind_table xs
+    (bars_token behind_table (t.Sign s.Open) (bracketed (suc n)) 0 xs (λ h. miss.misses h))).to o r)
+
+pub source_table_read : (n : ℕ) (xs ys : List Token) (v : TableRef) → suc n ≤ 8 → Misses (t.Sign s.Open) xs →
+    Reads table_ref behind_table xs (read v ys) →
+    Reads (source n) behind_table xs (read (source_of.Table v) ys)
+unfolding table_made
+source_table_read n xs ys v le miss r =
+    source_table n xs (read (source_of.Table v) ys) le miss
+    (part_read table_ref table_made behind_table behind_table xs ys v (read (source_of.Table v) ys) r starts_table_made
+    (reads_gives (source_of.Table v) (source_of.Table v) behind_table ys refl))
+
+pub source_table_failed : (n : ℕ) (xs : List Token) (f : Fault) → suc n ≤ 8 → Misses (t.Sign s.Open) xs →
+    Reads table_ref behind_table xs (failed f) →
+    Reads (source n) behind_table xs (failed f)
+source_table_failed n xs f le miss r =
+    source_table n xs (failed f) le miss
+    (reads_bind_failed table_ref table_made behind_table behind_table xs f r starts_table_made spelled_table_made)
+
+-- in brackets
+source_bracket : (n k : ℕ) (xs ys : List Token) (o : Seen Token Source) → suc n ≤ 8 → k ≡ n + 1 →
+    xs ≡ t.Sign s.Open ∷ ys → Reads (bracketed k) any ys o →
+    Reads (source n) behind_table xs o
+unfolding source table_made
+source_bracket n k xs ys o le i e r =
+    let same : k ≡ suc n = omega (arith, i) in
+    (leads_reaches sources (suc n) (either (bind table_ref table_made)
+    (sign s.Open (bracketed (suc n)))) behind_table xs le).to o
+    ((leads_right (bind table_ref table_made) (sign s.Open (bracketed (suc n))) behind_table xs
+    (bars_table xs (λ u x a b. open_is_no_name u x (cc (a, e)) b))).to o
+    (word_read (t.Sign s.Open) (bracketed (suc n)) behind_table xs ys o e
+    (reads_narrow (bracketed (suc n)) any behind_table ys o (λ o h. refl)
+    (subst (λ j. Reads (bracketed j) any ys o) same r))))
+
+pub source_bracket_read : (n k : ℕ) (xs ys zs : List Token) (v : Source) → suc n ≤ 8 → k ≡ n + 1 →
+    xs ≡ t.Sign s.Open ∷ ys → Reads (bracketed k) any ys (read v zs) →
+    Reads (source n) behind_table xs (read v zs)
+source_bracket_read n k xs ys zs v le i e r = source_bracket n k xs ys (read v zs) le i e r
+
+pub source_bracket_failed : (n k : ℕ) (xs ys : List Token) (f : Fault) → suc n ≤ 8 → k ≡ n + 1 →
+    xs ≡ t.Sign s.Open ∷ ys → Reads (bracketed k) any ys (failed f) →
+    Reads (source n) behind_table xs (failed f)
+source_bracket_failed n k xs ys f le i e r = source_bracket n k xs ys (failed f) le i e r
+
+-- the ninth source
+pub source_ninth_bracket : (n : ℕ) (xs ys : List Token) (l : ℕ) → 8 ≤ n → xs ≡ t.Sign s.Open ∷ ys → l ≡ length xs →
+    Reads (source n) behind_table xs (failed (Many l))
+unfolding source table_made
+source_ninth_bracket n xs ys l le e q =
+    reads_over sources (suc n) (either (bind table_ref table_made) (sign s.Open (bracketed (suc n)))) behind_table xs ys
+    (t.Sign s.Open) l (omega (arith, le)) e
+    (begun_right (t.Sign s.Open) (bind table_ref table_made) (sign s.Open (bracketed (suc n)))
+    (begun_token (t.Sign s.Open) (bracketed (suc n)) (spelled_bracketed (suc n)))) q
+
+pub source_ninth_table : (n : ℕ) (xs : List Token) (l : ℕ) → 8 ≤ n → true ≡ has name_of (next xs) → l ≡ length xs →
+    Reads (source n) behind_table xs (failed (Many l))
+unfolding source table_made table_ref name has
+source_ninth_table n [] l le h q = absurd (false≢true (sym h))
+source_ninth_table n (u ∷ ys) l le h q =
+    let v = some_name u (name_of u) refl h in
+    reads_over sources (suc n) (either (bind (bind (one name_of) table_named) table_made)
+    (sign s.Open (bracketed (suc n)))) behind_table (u ∷ ys) ys u l (omega (arith, le)) refl
+    (begun_left u (bind (bind (one name_of) table_named) table_made) (sign s.Open (bracketed (suc n)))
+    (begun_bind u (bind (one name_of) table_named) table_made
+    (begun_bind u (one name_of) table_named (begun_one name_of u v.0 v.1) spelled_named) spelled_table_made)) q
+
+pub source_nothing : (n : ℕ) (xs : List Token) (l : ℕ) → Misses (t.Sign s.Open) xs → false ≡ has name_of (next xs) →
+    l ≡ length xs →
+    Reads (source n) behind_table xs (failed (Syntax l))
+unfolding source table_made
+source_nothing n xs l miss h q =
+    let lacks = no_name_first xs h in
+    reads_refused (source n) behind_table xs l
+    (bars_reaches behind_table sources (suc n) (either (bind table_ref table_made)
+    (sign s.Open (bracketed (suc n)))) 1 xs
+    (bars_either behind_table (bind table_ref table_made) (sign s.Open (bracketed (suc n))) 1 xs
+    (bars_table xs (λ u y a b. lacks.lacks u y a b)) (bars_token behind_table (t.Sign s.Open) (bracketed (suc n)) 0 xs
+    (λ h. miss.misses h))))
+    (spelled_reaches sources (suc n) (either (bind table_ref table_made) (sign s.Open (bracketed (suc n))))
+    (spelled_choice n)) q

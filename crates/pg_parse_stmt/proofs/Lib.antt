@@ -1,0 +1,47 @@
+-- Lemmas of the parser, from its small functions up to whole statements, and of the laws of the grammar.
+-- Of a rule of several parts RULE_i is what is left of it behind its first i parts. RULE_at_i says what the rule answers
+-- where the part behind those is not read; the last of them, where all are.
+pub mod Exits
+pub mod Lists
+pub mod Steps
+pub mod Following
+pub mod Tables
+pub mod Conditions
+pub mod Assignments
+pub mod Naming
+pub mod Orders
+pub mod Locks
+pub mod Froms
+pub mod Sources
+pub mod Subselects
+pub mod Elements
+pub mod Creates
+pub mod Bracketed
+pub mod Items
+pub mod Selects
+pub mod Inserts
+pub mod Updates
+pub mod Constraints
+pub mod Parts
+pub mod Merges
+pub mod Statements
+pub mod Wholes
+pub mod Reserved
+pub mod Writing
+pub mod WritingParts
+pub mod WritingFroms
+pub mod WritingSelects
+pub mod WritingChanges
+pub mod WritingCreates
+pub mod WritingStatements
+pub mod Agreements
+pub mod AgreeParts
+pub mod AgreeStatements
+pub mod AgreeCreates
+pub mod Keeping
+pub mod KeepingTokens
+pub mod KeepingParts
+pub mod KeepingFroms
+pub mod KeepingStatements
+pub mod KeepingCreates
+pub mod KeepingSentences

@@ -1,0 +1,321 @@
+-- FOR and what stands behind it
+use Rattle.std.proofs.Common.{◌≡◌, ◌∷◌, ℕ, Bool, true, List, length, Option, Some, None, refl, sym, ap, ◌∙◌}
+use Rattle.std.specs.Prelude.{not}
+use Rattle.pg_grammar.specs.declared.fault.Fault.{Fault}
+use Rattle.pg_grammar.specs.declared.fault.Fault.TheVariants.{Syntax}
+use Rattle.pg_grammar.specs.Languages.{Lang, gives, one, bind, either}
+use Rattle.pg_grammar.specs.Answers.{next, Misses, Seen, read, failed, Reads}
+use Rattle.pg_grammar.proofs.Words.{Starts, Spelled, starts_gives, starts_token, starts_bind, starts_either, spelled_gives, spelled_token, spelled_bind, bars_token, bars_gives, bars_either}
+use Rattle.pg_grammar.proofs.Combining.{reads_gives, reads_bind_failed, leads_left, leads_right}
+use Rattle.pg_lexer.specs.declared.keyword.Keyword.TheVariants as k
+use Rattle.pg_lexer.specs.declared.token.Token.{Token}
+use Rattle.pg_lexer.specs.declared.token.Token.TheVariants as t
+use Rattle.pg_parse_stmt.specs.Behind.{any, is_word, behind_wait, behind_of, behind_locked, behind_locking}
+use Rattle.pg_parse_stmt.specs.Forms.{word}
+use Rattle.pg_parse_stmt.specs.Spellings.{spelled_or_else, spelled_optional}
+use Rattle.pg_parse_stmt.proofs.Lists.{starts_any, and_left}
+use Rattle.pg_parse_stmt.proofs.Steps.{word_read, word_missed, part_read, some_read, some_failed, none_read, starts_optional, and_right}
+use Rattle.pg_parse_stmt.specs.Grammar.{name, strength_behind, strength, of_table, lock_wait, locked, locking}
+use Rattle.pg_parse_stmt.specs.Spellings.{spelled_strength as spelled_strength_word}
+use Rattle.pg_parse_stmt.specs.Words.{strength_of}
+use Rattle.pg_parse_stmt.specs.declared.tree.LockStrength.{LockStrength}
+use Rattle.pg_parse_stmt.specs.declared.tree.LockStrength.TheVariants as lock
+use Rattle.pg_parse_stmt.specs.declared.tree.LockWait.{LockWait}
+use Rattle.pg_parse_stmt.specs.declared.tree.LockWait.TheVariants as wait_of
+use Rattle.pg_parse_stmt.specs.declared.tree.Locking.{Locking}
+use Rattle.pg_parse_stmt.proofs.Following.{for_goes_on_locking, nowait_behind_of, nowait_goes_on_wait, of_goes_on_of, skip_behind_of, skip_goes_on_wait}
+
+spelled_behind : (v : LockStrength) → Spelled (strength_behind v)
+unfolding strength_behind
+spelled_behind lock.KeyShare = spelled_token (t.Keyword k.Share) (gives lock.KeyShare) (spelled_gives lock.KeyShare)
+spelled_behind lock.Share = spelled_gives lock.Share
+spelled_behind lock.NoKeyUpdate =
+    spelled_token (t.Keyword k.Key) (word k.Update (gives lock.NoKeyUpdate))
+    (spelled_token (t.Keyword k.Update) (gives lock.NoKeyUpdate) (spelled_gives lock.NoKeyUpdate))
+spelled_behind lock.Update = spelled_gives lock.Update
+
+module _ (xs ys zs : List Token) (l : ℕ) where
+  pub key_share : xs ≡ t.Keyword k.Share ∷ ys → Reads (strength_behind lock.KeyShare) any xs (read lock.KeyShare ys)
+  unfolding strength_behind
+  key_share e =
+      word_read (t.Keyword k.Share) (gives lock.KeyShare) any xs ys (read lock.KeyShare ys) e
+      (reads_gives lock.KeyShare lock.KeyShare any ys refl)
+
+  pub key_no_share : Misses (t.Keyword k.Share) xs → l ≡ length xs →
+      Reads (strength_behind lock.KeyShare) any xs (failed (Syntax l))
+  unfolding strength_behind
+  key_no_share miss q =
+      word_missed (t.Keyword k.Share) (gives lock.KeyShare) any xs l miss q (spelled_gives lock.KeyShare)
+
+  pub share : Reads (strength_behind lock.Share) any xs (read lock.Share xs)
+  unfolding strength_behind
+  share = reads_gives lock.Share lock.Share any xs refl
+
+  pub update : Reads (strength_behind lock.Update) any xs (read lock.Update xs)
+  unfolding strength_behind
+  update = reads_gives lock.Update lock.Update any xs refl
+
+  pub no_key_update : xs ≡ t.Keyword k.Key ∷ ys → ys ≡ t.Keyword k.Update ∷ zs →
+      Reads (strength_behind lock.NoKeyUpdate) any xs (read lock.NoKeyUpdate zs)
+  unfolding strength_behind
+  no_key_update e h =
+      word_read (t.Keyword k.Key) (word k.Update (gives lock.NoKeyUpdate)) any xs ys (read lock.NoKeyUpdate zs) e
+      (word_read (t.Keyword k.Update) (gives lock.NoKeyUpdate) any ys zs (read lock.NoKeyUpdate zs) h
+      (reads_gives lock.NoKeyUpdate lock.NoKeyUpdate any zs refl))
+
+  pub no_key : Misses (t.Keyword k.Key) xs → l ≡ length xs →
+      Reads (strength_behind lock.NoKeyUpdate) any xs (failed (Syntax l))
+  unfolding strength_behind
+  no_key miss q =
+      word_missed (t.Keyword k.Key) (word k.Update (gives lock.NoKeyUpdate)) any xs l miss q
+      (spelled_token (t.Keyword k.Update) (gives lock.NoKeyUpdate) (spelled_gives lock.NoKeyUpdate))
+
+  pub no_update : xs ≡ t.Keyword k.Key ∷ ys → Misses (t.Keyword k.Update) ys → l ≡ length ys →
+      Reads (strength_behind lock.NoKeyUpdate) any xs (failed (Syntax l))
+  unfolding strength_behind
+  no_update e miss q =
+      word_read (t.Keyword k.Key) (word k.Update (gives lock.NoKeyUpdate)) any xs ys (failed (Syntax l)) e
+      (word_missed (t.Keyword k.Update) (gives lock.NoKeyUpdate) any ys l miss q (spelled_gives lock.NoKeyUpdate))
+
+pub strength_read : (xs ys : List Token) (v : LockStrength) (o : Seen Token LockStrength) →
+    Reads (one strength_of) any xs (read v ys) → Reads (strength_behind v) any ys o →
+    Reads strength any xs o
+unfolding strength
+strength_read xs ys v o r q =
+    part_read (one strength_of) strength_behind any any xs ys v o r (λ u. starts_any (strength_behind u) any) q
+
+pub strength_failed : (xs : List Token) (f : Fault) → Reads (one strength_of) any xs (failed f) →
+    Reads strength any xs (failed f)
+unfolding strength
+strength_failed xs f r =
+    reads_bind_failed (one strength_of) strength_behind any any xs f r
+    (λ u. starts_any (strength_behind u) any) spelled_behind
+
+spelled_strength : Spelled strength
+unfolding strength
+spelled_strength = spelled_bind (one strength_of) strength_behind spelled_strength_word spelled_behind
+
+of_below : (o : Option Token) → behind_of o ≡ true → any o ≡ true
+unfolding behind_of
+of_below o e = refl
+
+pub of_read : (xs ys zs : List Token) (v : List ℕ) → xs ≡ (t.Keyword k.Of) ∷ ys → Reads (name) any ys (read v zs) →
+    Reads of_table behind_of xs (read (Some v) zs)
+unfolding of_table
+of_read xs ys zs v e r = some_read (t.Keyword k.Of) (name) any behind_of of_below xs ys zs v of_goes_on_of e r
+
+pub of_failed : (xs ys : List Token) (f : Fault) → xs ≡ (t.Keyword k.Of) ∷ ys → Reads (name) any ys (failed f) →
+    Reads of_table behind_of xs (failed f)
+unfolding of_table
+of_failed xs ys f e r = some_failed (t.Keyword k.Of) (name) any behind_of of_below xs ys f of_goes_on_of e r
+
+pub of_none : (xs : List Token) → Misses (t.Keyword k.Of) xs → Reads of_table behind_of xs (read None xs)
+unfolding of_table
+of_none xs miss = none_read (t.Keyword k.Of) (name) behind_of xs miss
+
+pub starts_of : (b : Option Token → Bool) → b (Some (t.Keyword k.Of)) ≡ true → Starts b of_table b
+unfolding of_table
+starts_of b h = starts_optional (t.Keyword k.Of) (name) b h
+
+pub spelled_of : Spelled of_table
+unfolding of_table
+spelled_of = spelled_optional (word k.Of (name))
+
+waits : Lang Token LockWait
+waits = either (word k.Nowait (gives wait_of.Fail)) (word k.Skip (word k.Locked (gives wait_of.Skip)))
+
+skips : Lang Token LockWait
+skips = word k.Locked (gives wait_of.Skip)
+
+not_both : {a b : Token} (xs ys : List Token) → xs ≡ a ∷ ys → (a ≡ b → ⊥) → next xs ≡ Some b → ⊥
+not_both {a} {b} xs ys e d n = let o : Some a ≡ Some b = sym (ap next e) ∙ n in d (cc o)
+
+module _ (xs ys zs : List Token) (l : ℕ) where
+  pub nowait_read : xs ≡ t.Keyword k.Nowait ∷ ys → Reads lock_wait behind_wait xs (read wait_of.Fail ys)
+  unfolding lock_wait waits
+  nowait_read e =
+      (leads_left waits (gives wait_of.Wait) behind_wait xs (bars_gives behind_wait wait_of.Wait 0 xs
+      (ap (λ y. behind_wait (next y)) e ∙ nowait_goes_on_wait))).to (read wait_of.Fail ys)
+      ((leads_left (word k.Nowait (gives wait_of.Fail)) (word k.Skip
+      (word k.Locked (gives wait_of.Skip))) behind_wait xs
+      (bars_token behind_wait (t.Keyword k.Skip) (word k.Locked (gives wait_of.Skip)) 0 xs
+      (not_both xs ys e (λ h. cc h)))).to (read wait_of.Fail ys)
+      (word_read (t.Keyword k.Nowait) (gives wait_of.Fail) behind_wait xs ys (read wait_of.Fail ys) e
+      (reads_gives wait_of.Fail wait_of.Fail behind_wait ys refl)))
+
+  skip_leads : (o : Seen Token LockWait) → xs ≡ t.Keyword k.Skip ∷ ys → Reads skips behind_wait ys o →
+      Reads lock_wait behind_wait xs o
+  unfolding lock_wait waits skips
+  skip_leads o e r =
+      (leads_left waits (gives wait_of.Wait) behind_wait xs (bars_gives behind_wait wait_of.Wait 0 xs
+      (ap (λ y. behind_wait (next y)) e ∙ skip_goes_on_wait))).to o
+      ((leads_right (word k.Nowait (gives wait_of.Fail)) (word k.Skip
+      (word k.Locked (gives wait_of.Skip))) behind_wait xs
+      (bars_token behind_wait (t.Keyword k.Nowait) (gives wait_of.Fail) 0 xs (not_both xs ys e (λ h. cc h)))).to o
+      (word_read (t.Keyword k.Skip) skips behind_wait xs ys o e r))
+
+  pub skip_read : xs ≡ t.Keyword k.Skip ∷ ys → ys ≡ t.Keyword k.Locked ∷ zs →
+      Reads lock_wait behind_wait xs (read wait_of.Skip zs)
+  unfolding skips
+  skip_read e h =
+      skip_leads (read wait_of.Skip zs) e (word_read (t.Keyword k.Locked) (gives wait_of.Skip) behind_wait ys zs
+      (read wait_of.Skip zs) h (reads_gives wait_of.Skip wait_of.Skip behind_wait zs refl))
+
+  pub skip_failed : xs ≡ t.Keyword k.Skip ∷ ys → Misses (t.Keyword k.Locked) ys → l ≡ length ys →
+      Reads lock_wait behind_wait xs (failed (Syntax l))
+  unfolding skips
+  skip_failed e miss q =
+      skip_leads (failed (Syntax l)) e (word_missed (t.Keyword k.Locked) (gives wait_of.Skip) behind_wait ys l miss q
+      (spelled_gives wait_of.Skip))
+
+  pub wait_read : Misses (t.Keyword k.Nowait) xs → Misses (t.Keyword k.Skip) xs →
+      Reads lock_wait behind_wait xs (read wait_of.Wait xs)
+  unfolding lock_wait waits
+  wait_read fails miss =
+      (leads_right waits (gives wait_of.Wait) behind_wait xs
+      (bars_either behind_wait (word k.Nowait (gives wait_of.Fail))
+      (word k.Skip (word k.Locked (gives wait_of.Skip))) 1 xs
+      (bars_token behind_wait (t.Keyword k.Nowait) (gives wait_of.Fail) 0 xs (λ n. fails.misses n))
+      (bars_token behind_wait (t.Keyword k.Skip) (word k.Locked (gives wait_of.Skip)) 0 xs (λ n. miss.misses n)))).to
+      (read wait_of.Wait xs)
+      (reads_gives wait_of.Wait wait_of.Wait behind_wait xs refl)
+
+spelled_wait : Spelled lock_wait
+unfolding lock_wait
+spelled_wait =
+    spelled_or_else wait_of.Wait (either (word k.Nowait (gives wait_of.Fail))
+    (word k.Skip (word k.Locked (gives wait_of.Skip))))
+
+starts_wait : (b : Option Token → Bool) → b (Some (t.Keyword k.Nowait)) ≡ true → b (Some (t.Keyword k.Skip)) ≡ true →
+    Starts b lock_wait b
+unfolding lock_wait
+starts_wait b h i =
+    starts_either b b (either (word k.Nowait (gives wait_of.Fail)) (word k.Skip (word k.Locked (gives wait_of.Skip))))
+    (gives wait_of.Wait)
+    (starts_either b b (word k.Nowait (gives wait_of.Fail)) (word k.Skip (word k.Locked (gives wait_of.Skip)))
+    (starts_token b b (t.Keyword k.Nowait) (gives wait_of.Fail) h)
+    (starts_token b b (t.Keyword k.Skip) (word k.Locked (gives wait_of.Skip)) i))
+    (starts_gives b b wait_of.Wait (λ o e. e))
+
+locked_of : (o : Option Token) → behind_locked o ≡ true → behind_of o ≡ true
+unfolding behind_locked
+locked_of o e = and_left (behind_of o) (behind_wait o) e
+
+locked_wait : (o : Option Token) → behind_locked o ≡ true → behind_wait o ≡ true
+unfolding behind_locked
+locked_wait o e = and_right (behind_of o) (behind_wait o) e
+
+locked_made : (v1 : LockStrength) → (v2 : Option (List ℕ)) → (v3 : LockWait) → Locking
+locked_made v1 v2 v3 = record { strength = v1; table = v2; wait = v3 }
+
+locked_3 : (v1 : LockStrength) → (v2 : Option (List ℕ)) → (v3 : LockWait) → Lang Token Locking
+locked_3 v1 v2 v3 = gives (locked_made v1 v2 v3)
+
+spelled_locked_3 : (v1 : LockStrength) → (v2 : Option (List ℕ)) → (v3 : LockWait) → Spelled (locked_3 v1 v2 v3)
+unfolding locked_3
+spelled_locked_3 v1 v2 v3 = spelled_gives (locked_made v1 v2 v3)
+
+locked_2 : (v1 : LockStrength) → (v2 : Option (List ℕ)) → Lang Token Locking
+locked_2 v1 v2 = bind lock_wait (locked_3 v1 v2)
+
+spelled_locked_2 : (v1 : LockStrength) → (v2 : Option (List ℕ)) → Spelled (locked_2 v1 v2)
+unfolding locked_2
+spelled_locked_2 v1 v2 = spelled_bind lock_wait (locked_3 v1 v2) spelled_wait (λ u. spelled_locked_3 v1 v2 u)
+
+locked_1 : (v1 : LockStrength) → Lang Token Locking
+locked_1 v1 = bind of_table (locked_2 v1)
+
+spelled_locked_1 : (v1 : LockStrength) → Spelled (locked_1 v1)
+unfolding locked_1
+spelled_locked_1 v1 = spelled_bind of_table (locked_2 v1) spelled_of (λ u. spelled_locked_2 v1 u)
+
+pub spelled_locked : Spelled (locked)
+unfolding locked locked_1 locked_2 locked_3 locked_made
+spelled_locked = spelled_bind strength (locked_1) spelled_strength (λ u. spelled_locked_1 u)
+
+starts_locked_1 : (v1 : LockStrength) → Starts any (locked_1 v1) behind_locked
+unfolding locked_1 locked_2 locked_3 locked_made
+starts_locked_1 v1 = starts_any (locked_1 v1) behind_locked
+
+starts_locked_2 : (v1 : LockStrength) → (v2 : Option (List ℕ)) → Starts behind_of (locked_2 v1 v2) behind_locked
+unfolding locked_1 locked_2 locked_3 locked_made
+starts_locked_2 v1 v2 =
+    starts_bind behind_of behind_of behind_locked lock_wait (locked_3 v1 v2)
+    (starts_wait behind_of nowait_behind_of skip_behind_of) (λ v3. starts_gives behind_of behind_locked
+    (locked_made v1 v2 v3) (locked_of))
+
+starts_locked_3 : (v1 : LockStrength) → (v2 : Option (List ℕ)) → (v3 : LockWait) →
+    Starts behind_wait (locked_3 v1 v2 v3) behind_locked
+unfolding locked_1 locked_2 locked_3 locked_made
+starts_locked_3 v1 v2 v3 = starts_gives behind_wait behind_locked (locked_made v1 v2 v3) (locked_wait)
+
+pub locked_at_0 : (xs : List Token) (f : Fault) → Reads strength any xs (failed f) →
+    Reads (locked) behind_locked xs (failed f)
+unfolding locked locked_1 locked_2 locked_3 locked_made
+locked_at_0 xs f e1 =
+    reads_bind_failed strength (locked_1) any behind_locked xs f e1 (λ v1. starts_locked_1 v1)
+    (λ v1. spelled_locked_1 v1)
+
+pub locked_at_1 : (xs y1 : List Token) (v1 : LockStrength) (f : Fault) → Reads strength any xs (read v1 y1) →
+    Reads of_table behind_of y1 (failed f) →
+    Reads (locked) behind_locked xs (failed f)
+unfolding locked locked_1 locked_2 locked_3 locked_made
+locked_at_1 xs y1 v1 f e1 e2 =
+    part_read strength (locked_1) any behind_locked xs y1 v1 (failed f) e1 (λ v1. starts_locked_1 v1)
+    (reads_bind_failed of_table (locked_2 v1) behind_of behind_locked y1 f e2 (λ v2. starts_locked_2 v1 v2)
+    (λ v2. spelled_locked_2 v1 v2))
+
+pub locked_at_2 : (xs y1 y2 : List Token) (v1 : LockStrength) (v2 : Option (List ℕ)) (f : Fault) →
+    Reads strength any xs (read v1 y1) → Reads of_table behind_of y1 (read v2 y2) →
+    Reads lock_wait behind_wait y2 (failed f) →
+    Reads (locked) behind_locked xs (failed f)
+unfolding locked locked_1 locked_2 locked_3 locked_made
+locked_at_2 xs y1 y2 v1 v2 f e1 e2 e3 =
+    part_read strength (locked_1) any behind_locked xs y1 v1 (failed f) e1 (λ v1. starts_locked_1 v1)
+    (part_read of_table (locked_2 v1) behind_of behind_locked y1 y2 v2 (failed f) e2 (λ v2. starts_locked_2 v1 v2)
+    (reads_bind_failed lock_wait (locked_3 v1 v2) behind_wait behind_locked y2 f e3 (λ v3. starts_locked_3 v1 v2 v3)
+    (λ v3. spelled_locked_3 v1 v2 v3)))
+
+pub locked_at_3 : (xs y1 y2 y3 : List Token) (v1 : LockStrength) (v2 : Option (List ℕ)) (v3 : LockWait) →
+    Reads strength any xs (read v1 y1) → Reads of_table behind_of y1 (read v2 y2) →
+    Reads lock_wait behind_wait y2 (read v3 y3) →
+    Reads (locked) behind_locked xs (read (record { strength = v1; table = v2; wait = v3 }) y3)
+unfolding locked locked_1 locked_2 locked_3 locked_made
+locked_at_3 xs y1 y2 y3 v1 v2 v3 e1 e2 e3 =
+    part_read strength (locked_1) any behind_locked xs y1 v1 (read
+    (record { strength = v1; table = v2; wait = v3 }) y3) e1 (λ v1. starts_locked_1 v1)
+    (part_read of_table (locked_2 v1) behind_of behind_locked y1 y2 v2
+    (read (record { strength = v1; table = v2; wait = v3 }) y3) e2 (λ v2. starts_locked_2 v1 v2)
+    (part_read lock_wait (locked_3 v1 v2) behind_wait behind_locked y2 y3 v3
+    (read (record { strength = v1; table = v2; wait = v3 }) y3) e3 (λ v3. starts_locked_3 v1 v2 v3)
+    (reads_gives (locked_made v1 v2 v3) (locked_made v1 v2 v3) behind_locked y3 refl)))
+
+locking_below : (o : Option Token) → behind_locking o ≡ true → behind_locked o ≡ true
+unfolding behind_locking
+locking_below o e = and_left (behind_locked o) (not (is_word k.For o)) e
+
+pub locking_read : (xs ys zs : List Token) (v : Locking) → xs ≡ (t.Keyword k.For) ∷ ys →
+    Reads (locked) behind_locked ys (read v zs) →
+    Reads locking behind_locking xs (read (Some v) zs)
+unfolding locking
+locking_read xs ys zs v e r =
+    some_read (t.Keyword k.For) (locked) behind_locked behind_locking locking_below xs ys zs v for_goes_on_locking e r
+
+pub locking_failed : (xs ys : List Token) (f : Fault) → xs ≡ (t.Keyword k.For) ∷ ys →
+    Reads (locked) behind_locked ys (failed f) →
+    Reads locking behind_locking xs (failed f)
+unfolding locking
+locking_failed xs ys f e r =
+    some_failed (t.Keyword k.For) (locked) behind_locked behind_locking locking_below xs ys f for_goes_on_locking e r
+
+pub locking_none : (xs : List Token) → Misses (t.Keyword k.For) xs → Reads locking behind_locking xs (read None xs)
+unfolding locking
+locking_none xs miss = none_read (t.Keyword k.For) (locked) behind_locking xs miss
+
+pub starts_locking : (b : Option Token → Bool) → b (Some (t.Keyword k.For)) ≡ true → Starts b locking b
+unfolding locking
+starts_locking b h = starts_optional (t.Keyword k.For) (locked) b h
+
+pub spelled_locking : Spelled locking
+unfolding locking
+spelled_locking = spelled_optional (word k.For (locked))

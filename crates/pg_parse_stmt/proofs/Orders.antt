@@ -1,0 +1,283 @@
+-- ORDER BY, LIMIT and RETURNING
+use Rattle.std.proofs.Common.{◌≡◌, ◌∷◌, ℕ, Bool, true, false, List, [], length, Option, Some, None, refl, sym, ap, ◌∙◌, subst}
+use Rattle.std.specs.Prelude.{not, ◌&&◌, is_some}
+use Rattle.pg_grammar.specs.declared.fault.Fault.{Fault}
+use Rattle.pg_grammar.specs.declared.fault.Fault.TheVariants.{Syntax}
+use Rattle.pg_grammar.specs.Languages.{Lang, Took, gives, one, bind}
+use Rattle.pg_grammar.specs.Answers.{next, Misses, Lacks, Seen, read, failed, Reads}
+use Rattle.pg_grammar.proofs.Words.{Starts, Spelled, starts_gives, starts_one, starts_bind, starts_either, spelled_gives, spelled_bind, bars_one, bars_gives}
+use Rattle.pg_grammar.proofs.Combining.{reads_gives, reads_one, reads_bind_failed, leads_left, leads_right}
+use Rattle.pg_lexer.specs.declared.keyword.Keyword.TheVariants as k
+use Rattle.pg_lexer.specs.declared.token.Token.{Token}
+use Rattle.pg_lexer.specs.declared.token.Token.TheVariants as t
+use Rattle.pg_parse_expr.specs.Behind.{has, behind_expr}
+use Rattle.pg_parse_expr.specs.Grammar.{expr}
+use Rattle.pg_parse_expr.specs.Tree.{Tree}
+use Rattle.pg_parse_stmt.specs.Behind.{any, is_word, behind_list, behind_items, behind_returning, behind_direction, behind_nulls, behind_order_key, behind_order, behind_limit}
+use Rattle.pg_parse_stmt.specs.Forms.{word, or_else, list_of}
+use Rattle.pg_parse_stmt.specs.Spellings.{spelled_expr, spelled_or_else, spelled_optional, spelled_list}
+use Rattle.pg_parse_stmt.specs.Words.{direction_of}
+use Rattle.pg_parse_stmt.proofs.Lists.{and_left}
+use Rattle.pg_parse_stmt.proofs.Steps.{word_read, word_missed, part_read, or_none, or_narrow, some_read, some_failed, none_read, starts_or, starts_optional, and_right}
+use Rattle.pg_parse_stmt.specs.Grammar.{items, returning, direction, nulls_by, nulls, order_key, order, limit}
+use Rattle.pg_parse_stmt.specs.Words.{integer_of, nulls_of}
+use Rattle.pg_parse_stmt.specs.declared.tree.Item.{Item}
+use Rattle.pg_parse_stmt.specs.declared.tree.Direction.{Direction}
+use Rattle.pg_parse_stmt.specs.declared.tree.Direction.TheVariants.{Ascending}
+use Rattle.pg_parse_stmt.specs.declared.tree.NullsPlace.{NullsPlace}
+use Rattle.pg_parse_stmt.specs.declared.tree.OrderKey.{OrderKey}
+use Rattle.pg_parse_stmt.proofs.Following.{expr_direction, limit_goes_on_limit, nulls_behind_direction, nulls_behind_expr, nulls_goes_on_nulls, order_goes_on_order, returning_goes_on_returning}
+
+returning_below : (o : Option Token) → behind_returning o ≡ true → behind_items o ≡ true
+unfolding behind_returning
+returning_below o e = and_left (behind_items o) (not (is_word k.Returning o)) e
+
+pub returning_read : (xs ys : List Token) (o : Seen Token (List Item)) → xs ≡ t.Keyword k.Returning ∷ ys →
+    Reads items behind_items ys o →
+    Reads returning behind_returning xs o
+unfolding returning
+returning_read xs ys o e r =
+    or_narrow []
+    (t.Keyword k.Returning) items behind_items behind_returning xs ys o returning_goes_on_returning returning_below e r
+
+pub returning_none : (xs : List Token) (v : List Item) → v ≡ [] → Misses (t.Keyword k.Returning) xs →
+    Reads returning behind_returning xs (read v xs)
+unfolding returning
+returning_none xs v e miss =
+    subst (λ w. Reads (or_else [] (word k.Returning items)) behind_returning xs (read w xs)) (sym e)
+    (or_none [] (t.Keyword k.Returning) items behind_returning xs miss)
+
+pub starts_returning : (b : Option Token → Bool) → b (Some (t.Keyword k.Returning)) ≡ true → Starts b returning b
+unfolding returning
+starts_returning b h = starts_or [] (t.Keyword k.Returning) items b h
+
+pub spelled_returning : Spelled returning
+unfolding returning
+spelled_returning = spelled_or_else [] (word k.Returning items)
+
+direction_on : (u : Token) (d : Direction) → direction_of u ≡ Some d → behind_direction (Some u) ≡ false
+unfolding behind_direction has
+direction_on u d e = ap (λ o. not (is_some o)) e
+
+pub direction_written : (xs ys : List Token) (d : Direction) → Took direction_of xs d ys →
+    Reads direction behind_direction xs (read d ys)
+unfolding direction
+direction_written xs ys d k =
+    (leads_left (one direction_of) (gives Ascending) behind_direction xs
+    (bars_gives behind_direction Ascending 0 xs (ap (λ y. behind_direction
+    (next y)) k.is ∙ direction_on k.head d k.value))).to (read d ys)
+    (reads_one direction_of behind_direction xs ys k.head d k.is k.value)
+
+pub direction_none : (xs : List Token) → Lacks direction_of xs → Reads direction behind_direction xs (read Ascending xs)
+unfolding direction
+direction_none xs lacks =
+    (leads_right (one direction_of) (gives Ascending) behind_direction xs
+    (bars_one behind_direction direction_of 0 xs (λ u y a b. lacks.lacks u y a b))).to (read Ascending xs)
+    (reads_gives Ascending Ascending behind_direction xs refl)
+
+starts_direction : (b : Option Token → Bool) →
+    ((u : Token) (d : Direction) → direction_of u ≡ Some d → b (Some u) ≡ true) → Starts b direction b
+unfolding direction
+starts_direction b h =
+    starts_either b b (one direction_of) (gives Ascending) (starts_one b b direction_of h)
+    (starts_gives b b Ascending (λ o e. e))
+
+spelled_direction : Spelled direction
+unfolding direction
+spelled_direction = spelled_or_else Ascending (one direction_of)
+
+pub nulls_read : (d : Direction) (xs ys : List Token) (o : Seen Token NullsPlace) → xs ≡ t.Keyword k.Nulls ∷ ys →
+    Reads (one nulls_of) any ys o →
+    Reads (nulls d) behind_nulls xs o
+unfolding nulls
+nulls_read d xs ys o e r =
+    or_narrow (nulls_by d) (t.Keyword k.Nulls) (one nulls_of) any behind_nulls xs ys o nulls_goes_on_nulls
+    (λ o h. refl) e r
+
+pub nulls_none : (d : Direction) (xs : List Token) (v : NullsPlace) → v ≡ nulls_by d → Misses (t.Keyword k.Nulls) xs →
+    Reads (nulls d) behind_nulls xs (read v xs)
+unfolding nulls
+nulls_none d xs v e miss =
+    subst (λ w. Reads (or_else (nulls_by d) (word k.Nulls (one nulls_of))) behind_nulls xs (read w xs)) (sym e)
+    (or_none (nulls_by d) (t.Keyword k.Nulls) (one nulls_of) behind_nulls xs miss)
+
+starts_nulls : (d : Direction) (b : Option Token → Bool) → b (Some (t.Keyword k.Nulls)) ≡ true → Starts b (nulls d) b
+unfolding nulls
+starts_nulls d b h = starts_or (nulls_by d) (t.Keyword k.Nulls) (one nulls_of) b h
+
+spelled_nulls : (d : Direction) → Spelled (nulls d)
+unfolding nulls
+spelled_nulls d = spelled_or_else (nulls_by d) (word k.Nulls (one nulls_of))
+
+key_expr : (o : Option Token) → behind_order_key o ≡ true → behind_expr o ≡ true
+unfolding behind_order_key
+key_expr o e =
+    and_left (behind_expr o) (behind_direction o) (and_left (behind_expr o && behind_direction o) (behind_nulls o) e)
+
+key_direction : (o : Option Token) → behind_order_key o ≡ true → behind_direction o ≡ true
+unfolding behind_order_key
+key_direction o e =
+    and_right (behind_expr o) (behind_direction o) (and_left (behind_expr o && behind_direction o) (behind_nulls o) e)
+
+key_nulls : (o : Option Token) → behind_order_key o ≡ true → behind_nulls o ≡ true
+unfolding behind_order_key
+key_nulls o e = and_right (behind_expr o && behind_direction o) (behind_nulls o) e
+
+order_key_made : (v1 : Tree) → (v2 : Direction) → (v3 : NullsPlace) → OrderKey
+order_key_made v1 v2 v3 = record { expr = v1; direction = v2; nulls = v3 }
+
+order_key_3 : (v1 : Tree) → (v2 : Direction) → (v3 : NullsPlace) → Lang Token OrderKey
+order_key_3 v1 v2 v3 = gives (order_key_made v1 v2 v3)
+
+spelled_order_key_3 : (v1 : Tree) → (v2 : Direction) → (v3 : NullsPlace) → Spelled (order_key_3 v1 v2 v3)
+unfolding order_key_3
+spelled_order_key_3 v1 v2 v3 = spelled_gives (order_key_made v1 v2 v3)
+
+order_key_2 : (v1 : Tree) → (v2 : Direction) → Lang Token OrderKey
+order_key_2 v1 v2 = bind (nulls v2) (order_key_3 v1 v2)
+
+spelled_order_key_2 : (v1 : Tree) → (v2 : Direction) → Spelled (order_key_2 v1 v2)
+unfolding order_key_2
+spelled_order_key_2 v1 v2 =
+    spelled_bind (nulls v2) (order_key_3 v1 v2) (spelled_nulls v2) (λ u. spelled_order_key_3 v1 v2 u)
+
+order_key_1 : (v1 : Tree) → Lang Token OrderKey
+order_key_1 v1 = bind direction (order_key_2 v1)
+
+spelled_order_key_1 : (v1 : Tree) → Spelled (order_key_1 v1)
+unfolding order_key_1
+spelled_order_key_1 v1 = spelled_bind direction (order_key_2 v1) spelled_direction (λ u. spelled_order_key_2 v1 u)
+
+pub spelled_order_key : Spelled (order_key)
+unfolding order_key order_key_1 order_key_2 order_key_3 order_key_made
+spelled_order_key = spelled_bind expr (order_key_1) spelled_expr (λ u. spelled_order_key_1 u)
+
+starts_order_key_1 : (v1 : Tree) → Starts behind_expr (order_key_1 v1) behind_order_key
+unfolding order_key_1 order_key_2 order_key_3 order_key_made
+starts_order_key_1 v1 =
+    starts_bind behind_expr behind_expr behind_order_key direction (order_key_2 v1)
+    (starts_direction behind_expr expr_direction) (λ v2. starts_bind behind_expr behind_expr behind_order_key (nulls v2)
+    (order_key_3 v1 v2) (starts_nulls v2 behind_expr nulls_behind_expr)
+    (λ v3. starts_gives behind_expr behind_order_key (order_key_made v1 v2 v3) (key_expr)))
+
+starts_order_key_2 : (v1 : Tree) → (v2 : Direction) → Starts behind_direction (order_key_2 v1 v2) behind_order_key
+unfolding order_key_1 order_key_2 order_key_3 order_key_made
+starts_order_key_2 v1 v2 =
+    starts_bind behind_direction behind_direction behind_order_key (nulls v2) (order_key_3 v1 v2)
+    (starts_nulls v2 behind_direction nulls_behind_direction)
+    (λ v3. starts_gives behind_direction behind_order_key (order_key_made v1 v2 v3) (key_direction))
+
+starts_order_key_3 : (v1 : Tree) → (v2 : Direction) → (v3 : NullsPlace) →
+    Starts behind_nulls (order_key_3 v1 v2 v3) behind_order_key
+unfolding order_key_1 order_key_2 order_key_3 order_key_made
+starts_order_key_3 v1 v2 v3 = starts_gives behind_nulls behind_order_key (order_key_made v1 v2 v3) (key_nulls)
+
+pub order_key_at_0 : (xs : List Token) (f : Fault) → Reads expr behind_expr xs (failed f) →
+    Reads (order_key) behind_order_key xs (failed f)
+unfolding order_key order_key_1 order_key_2 order_key_3 order_key_made
+order_key_at_0 xs f e1 =
+    reads_bind_failed expr (order_key_1) behind_expr behind_order_key xs f e1 (λ v1. starts_order_key_1 v1)
+    (λ v1. spelled_order_key_1 v1)
+
+pub order_key_at_1 : (xs y1 : List Token) (v1 : Tree) (f : Fault) → Reads expr behind_expr xs (read v1 y1) →
+    Reads direction behind_direction y1 (failed f) →
+    Reads (order_key) behind_order_key xs (failed f)
+unfolding order_key order_key_1 order_key_2 order_key_3 order_key_made
+order_key_at_1 xs y1 v1 f e1 e2 =
+    part_read expr (order_key_1) behind_expr behind_order_key xs y1 v1 (failed f) e1 (λ v1. starts_order_key_1 v1)
+    (reads_bind_failed direction (order_key_2 v1) behind_direction behind_order_key y1 f e2
+    (λ v2. starts_order_key_2 v1 v2) (λ v2. spelled_order_key_2 v1 v2))
+
+pub order_key_at_2 : (xs y1 y2 : List Token) (v1 : Tree) (v2 : Direction) (f : Fault) →
+    Reads expr behind_expr xs (read v1 y1) → Reads direction behind_direction y1 (read v2 y2) →
+    Reads (nulls v2) behind_nulls y2 (failed f) →
+    Reads (order_key) behind_order_key xs (failed f)
+unfolding order_key order_key_1 order_key_2 order_key_3 order_key_made
+order_key_at_2 xs y1 y2 v1 v2 f e1 e2 e3 =
+    part_read expr (order_key_1) behind_expr behind_order_key xs y1 v1 (failed f) e1 (λ v1. starts_order_key_1 v1)
+    (part_read direction (order_key_2 v1) behind_direction behind_order_key y1 y2 v2 (failed f) e2
+    (λ v2. starts_order_key_2 v1 v2)
+    (reads_bind_failed (nulls v2) (order_key_3 v1 v2) behind_nulls behind_order_key y2 f e3
+    (λ v3. starts_order_key_3 v1 v2 v3) (λ v3. spelled_order_key_3 v1 v2 v3)))
+
+pub order_key_at_3 : (xs y1 y2 y3 : List Token) (v1 : Tree) (v2 : Direction) (v3 : NullsPlace) →
+    Reads expr behind_expr xs (read v1 y1) → Reads direction behind_direction y1 (read v2 y2) →
+    Reads (nulls v2) behind_nulls y2 (read v3 y3) →
+    Reads (order_key) behind_order_key xs (read (record { expr = v1; direction = v2; nulls = v3 }) y3)
+unfolding order_key order_key_1 order_key_2 order_key_3 order_key_made
+order_key_at_3 xs y1 y2 y3 v1 v2 v3 e1 e2 e3 =
+    part_read expr (order_key_1) behind_expr behind_order_key xs y1 v1
+    (read (record { expr = v1; direction = v2; nulls = v3 }) y3) e1 (λ v1. starts_order_key_1 v1)
+    (part_read direction (order_key_2 v1) behind_direction behind_order_key y1 y2 v2
+    (read (record { expr = v1; direction = v2; nulls = v3 }) y3) e2 (λ v2. starts_order_key_2 v1 v2)
+    (part_read (nulls v2) (order_key_3 v1 v2) behind_nulls behind_order_key y2 y3 v3
+    (read (record { expr = v1; direction = v2; nulls = v3 }) y3) e3 (λ v3. starts_order_key_3 v1 v2 v3)
+    (reads_gives (order_key_made v1 v2 v3) (order_key_made v1 v2 v3) behind_order_key y3 refl)))
+
+order_below : (o : Option Token) → behind_order o ≡ true → behind_list behind_order_key o ≡ true
+unfolding behind_order
+order_below o e = and_left (behind_list behind_order_key o) (not (is_word k.Order o)) e
+
+pub order_read : (xs ys zs : List Token) (o : Seen Token (List OrderKey)) → xs ≡ t.Keyword k.Order ∷ ys →
+    ys ≡ t.Keyword k.By ∷ zs →
+    Reads (list_of order_key) (behind_list behind_order_key) zs o → Reads order behind_order xs o
+unfolding order
+order_read xs ys zs o e h r =
+    or_narrow [] (t.Keyword k.Order) (word k.By (list_of order_key))
+    (behind_list behind_order_key) behind_order xs ys o order_goes_on_order order_below e
+    (word_read (t.Keyword k.By) (list_of order_key) (behind_list behind_order_key) ys zs o h r)
+
+pub order_no_by : (xs ys : List Token) (l : ℕ) → xs ≡ t.Keyword k.Order ∷ ys → Misses (t.Keyword k.By) ys →
+    l ≡ length ys →
+    Reads order behind_order xs (failed (Syntax l))
+unfolding order
+order_no_by xs ys l e miss q =
+    or_narrow [] (t.Keyword k.Order) (word k.By (list_of order_key)) (behind_list behind_order_key) behind_order xs ys
+    (failed (Syntax l)) order_goes_on_order order_below e
+    (word_missed (t.Keyword k.By) (list_of order_key) (behind_list behind_order_key) ys l miss q
+    (spelled_list order_key spelled_order_key))
+
+pub order_none : (xs : List Token) (v : List OrderKey) → v ≡ [] → Misses (t.Keyword k.Order) xs →
+    Reads order behind_order xs (read v xs)
+unfolding order
+order_none xs v e miss =
+    subst (λ w. Reads (or_else [] (word k.Order (word k.By (list_of order_key)))) behind_order xs (read w xs)) (sym e)
+    (or_none [] (t.Keyword k.Order) (word k.By (list_of order_key)) behind_order xs miss)
+
+pub starts_order : (b : Option Token → Bool) → b (Some (t.Keyword k.Order)) ≡ true → Starts b order b
+unfolding order
+starts_order b h = starts_or [] (t.Keyword k.Order) (word k.By (list_of order_key)) b h
+
+pub spelled_order : Spelled order
+unfolding order
+spelled_order = spelled_or_else [] (word k.Order (word k.By (list_of order_key)))
+
+limit_below : (o : Option Token) → behind_limit o ≡ true → any o ≡ true
+unfolding behind_limit
+limit_below o e = refl
+
+pub limit_read : (xs ys zs : List Token) (v : ℕ) → xs ≡ (t.Keyword k.Limit) ∷ ys →
+    Reads (one integer_of) any ys (read v zs) →
+    Reads limit behind_limit xs (read (Some v) zs)
+unfolding limit
+limit_read xs ys zs v e r =
+    some_read (t.Keyword k.Limit) (one integer_of) any behind_limit limit_below xs ys zs v limit_goes_on_limit e r
+
+pub limit_failed : (xs ys : List Token) (f : Fault) → xs ≡ (t.Keyword k.Limit) ∷ ys →
+    Reads (one integer_of) any ys (failed f) →
+    Reads limit behind_limit xs (failed f)
+unfolding limit
+limit_failed xs ys f e r =
+    some_failed (t.Keyword k.Limit) (one integer_of) any behind_limit limit_below xs ys f limit_goes_on_limit e r
+
+pub limit_none : (xs : List Token) → Misses (t.Keyword k.Limit) xs → Reads limit behind_limit xs (read None xs)
+unfolding limit
+limit_none xs miss = none_read (t.Keyword k.Limit) (one integer_of) behind_limit xs miss
+
+pub starts_limit : (b : Option Token → Bool) → b (Some (t.Keyword k.Limit)) ≡ true → Starts b limit b
+unfolding limit
+starts_limit b h = starts_optional (t.Keyword k.Limit) (one integer_of) b h
+
+pub spelled_limit : Spelled limit
+unfolding limit
+spelled_limit = spelled_optional (word k.Limit (one integer_of))

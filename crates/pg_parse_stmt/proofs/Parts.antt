@@ -1,0 +1,451 @@
+-- Defaults, columns and the parts of CREATE TABLE
+use Rattle.std.proofs.Common.{◌≡◌, ◌∷◌, ◌++◌, ℕ, Bool, true, false, List, [], length, Option, Some, None, refl, sym, ap, ◌∙◌}
+use Rattle.std.specs.Prelude.{not}
+use Rattle.pg_grammar.specs.declared.fault.Fault.{Fault}
+use Rattle.pg_grammar.specs.declared.fault.Fault.TheVariants.{Syntax}
+use Rattle.pg_grammar.specs.Languages.{Lang, Took, gives, one, bind, more}
+use Rattle.pg_grammar.specs.Answers.{next, Misses, Lacks, Seen, read, failed, Reads}
+use Rattle.pg_grammar.proofs.Words.{Starts, Bars, Spelled, starts_gives, starts_one, starts_bind, spelled_gives, spelled_bind, bars_token, bars_one, bars_bind}
+use Rattle.pg_grammar.proofs.Combining.{reads_gives, reads_one, reads_bind_failed, leads_left, leads_right}
+use Rattle.pg_lexer.specs.declared.keyword.Keyword.TheVariants as k
+use Rattle.pg_lexer.specs.declared.sign.Sign.TheVariants as s
+use Rattle.pg_lexer.specs.declared.token.Token.{Token}
+use Rattle.pg_lexer.specs.declared.token.Token.TheVariants as t
+use Rattle.pg_parse_expr.specs.Behind.{has}
+use Rattle.pg_parse_expr.specs.Operators.{name_of}
+use Rattle.pg_parse_stmt.specs.Behind.{any, behind_part}
+use Rattle.pg_parse_stmt.specs.Forms.{word, sign, optional}
+use Rattle.pg_parse_stmt.specs.Spellings.{spelled_name, spelled_optional}
+use Rattle.pg_parse_stmt.specs.Words.{rule_of}
+use Rattle.pg_parse_stmt.proofs.Lists.{starts_any}
+use Rattle.pg_parse_stmt.proofs.Steps.{word_read, part_read, some_read, some_failed, none_read, starts_optional}
+use Rattle.std.proofs.lemmas.Bool.{false≢true}
+use Rattle.std.proofs.Common.{subst, inl}
+use Rattle.std.specs.Prelude.{pos, neg_ℤ, is_some}
+use Rattle.pg_grammar.proofs.Leading.{Leads, leads_on, reads_narrow}
+use Rattle.pg_grammar.proofs.Words.{spelled_more, bars_from}
+use Rattle.pg_grammar.proofs.Combining.{leads_bind, leads_more, leads_no_more, leads_assoc, leads_gives, leads_one}
+use Rattle.pg_lexer.specs.Keywords.{may_be_name}
+use Rattle.pg_parse_stmt.specs.Behind.{behind_constraint_name, begins_constraint}
+use Rattle.pg_parse_stmt.specs.Grammar.{name, default, column_rule_behind, next_rule, column_part, table_constraint_behind, constraint_part, part}
+use Rattle.pg_parse_stmt.specs.Spellings.{spelled_constraint, spelled_kind}
+use Rattle.pg_parse_stmt.specs.Words.{kind_of, constraint_of, value_of, negative_of}
+use Rattle.pg_values.specs.declared.value.Value.{Value}
+use Rattle.pg_values.specs.declared.value.Value.TheVariants as value
+use Rattle.pg_values.specs.declared.value.Kind.{Kind}
+use Rattle.pg_parse_stmt.specs.declared.word.ConstraintWord.{ConstraintWord}
+use Rattle.pg_parse_stmt.specs.declared.word.RuleWord.{RuleWord}
+use Rattle.pg_parse_stmt.specs.declared.tree.ColumnRule.{ColumnRule}
+use Rattle.pg_parse_stmt.specs.declared.tree.TableConstraint.{TableConstraint}
+use Rattle.pg_parse_stmt.specs.declared.tree.TablePart.{TablePart}
+use Rattle.pg_parse_stmt.specs.declared.tree.TablePart.TheVariants as part_of
+use Rattle.pg_parse_stmt.proofs.Exits.{reads_lacks, lacks_first, lacks_end}
+use Rattle.pg_parse_stmt.proofs.Constraints.{default_is_spelled, spelled_table_constraint}
+use Rattle.pg_parse_stmt.proofs.Following.{check_behind_constraint_name, constraint_goes_on_constraint_name, primary_behind_constraint_name, unique_behind_constraint_name}
+
+module _ (xs ys : List Token) (u : Token) (v : Value) (l : ℕ) where
+  pub negative_read : xs ≡ u ∷ ys → Some v ≡ negative_of u → Reads (one negative_of) any xs (read v ys)
+  negative_read e h = reads_one negative_of any xs ys u v e (sym h)
+
+  pub no_negative : xs ≡ u ∷ ys → None ≡ negative_of u → l ≡ length xs →
+      Reads (one negative_of) any xs (failed (Syntax l))
+  unfolding negative_of
+  no_negative e h q =
+      reads_lacks negative_of any (t.Integer 0) (value.Int (neg_ℤ (pos 0))) refl xs l
+      (lacks_first negative_of u xs ys e (sym h)) q
+
+  value_leads : Misses (t.Sign s.Minus) xs → Leads default xs (one value_of) xs any
+  unfolding default
+  value_leads miss =
+      leads_left (one value_of) (sign s.Minus (one negative_of)) any xs
+      (bars_token any (t.Sign s.Minus) (one negative_of) 0 xs (λ n. miss.misses n))
+
+  pub default_read : Misses (t.Sign s.Minus) xs → xs ≡ u ∷ ys → Some v ≡ value_of u → Reads default any xs (read v ys)
+  default_read miss e h = (value_leads miss).to (read v ys) (reads_one value_of any xs ys u v e (sym h))
+
+  pub no_default : Misses (t.Sign s.Minus) xs → xs ≡ u ∷ ys → None ≡ value_of u → l ≡ length xs →
+      Reads default any xs (failed (Syntax l))
+  unfolding value_of
+  no_default miss e h q =
+      (value_leads miss).to (failed (Syntax l)) (reads_lacks value_of any (t.Quoted []) (value.Text []) refl xs l
+      (lacks_first value_of u xs ys e (sym h)) q)
+
+module _ (xs : List Token) (l : ℕ) where
+  pub no_negative_at_end : length xs ≡ 0 → l ≡ length xs → Reads (one negative_of) any xs (failed (Syntax l))
+  unfolding negative_of
+  no_negative_at_end e q =
+      reads_lacks negative_of any (t.Integer 0) (value.Int (neg_ℤ (pos 0))) refl xs l (lacks_end negative_of xs e) q
+
+  pub no_default_at_end : length xs ≡ 0 → Misses (t.Sign s.Minus) xs → l ≡ length xs →
+      Reads default any xs (failed (Syntax l))
+  unfolding value_of default
+  no_default_at_end e miss q =
+      (leads_left (one value_of) (sign s.Minus (one negative_of)) any xs
+      (bars_token any (t.Sign s.Minus) (one negative_of) 0 xs (λ n. miss.misses n))).to (failed (Syntax l))
+      (reads_lacks value_of any (t.Quoted []) (value.Text []) refl xs l (lacks_end value_of xs e) q)
+
+minus_no_value : (u : Token) (x : Value) → u ≡ t.Sign s.Minus → value_of u ≡ Some x → ⊥
+unfolding value_of
+minus_no_value u x e h = let o : None ≡ Some x = sym (ap value_of e) ∙ h in cc o
+
+default_minus : (xs ys : List Token) (o : Seen Token Value) → xs ≡ t.Sign s.Minus ∷ ys →
+    Reads (one negative_of) any ys o → Reads default any xs o
+unfolding default
+default_minus xs ys o e r =
+    (leads_right (one value_of) (sign s.Minus (one negative_of)) any xs
+    (bars_one any value_of 0 xs (λ u x n h. minus_no_value u x (cc (e, n)) h))).to o
+    (word_read (t.Sign s.Minus) (one negative_of) any xs ys o e r)
+
+pub default_minus_read : (xs ys zs : List Token) (v : Value) → xs ≡ t.Sign s.Minus ∷ ys →
+    Reads (one negative_of) any ys (read v zs) → Reads default any xs (read v zs)
+default_minus_read xs ys zs v e r = default_minus xs ys (read v zs) e r
+
+pub default_minus_failed : (xs ys : List Token) (f : Fault) → xs ≡ t.Sign s.Minus ∷ ys →
+    Reads (one negative_of) any ys (failed f) → Reads default any xs (failed f)
+default_minus_failed xs ys f e r = default_minus xs ys (failed f) e r
+
+spelled_default : Spelled default
+unfolding default value_of
+spelled_default =
+    record {
+      word = t.Quoted [] ∷ [];
+      value = value.Text [];
+      spells = λ m z w. inl
+          (record { head = t.Quoted []; is = refl; value = refl });
+    }
+
+spelled_rule_behind : (w : RuleWord) → Spelled (column_rule_behind w)
+spelled_rule_behind w = default_is_spelled spelled_default w
+
+-- the rules of a column
+after_rule : List ColumnRule → ColumnRule → Lang Token (List ColumnRule)
+after_rule list r = gives (list ++ r ∷ [])
+
+behind_word : List ColumnRule → RuleWord → Lang Token (List ColumnRule)
+behind_word list w = bind (column_rule_behind w) (after_rule list)
+
+then_rules : List ColumnRule → ColumnRule → Lang Token (List ColumnRule)
+then_rules list r = bind (after_rule list r) (more next_rule)
+
+spelled_then_rules : (list : List ColumnRule) (r : ColumnRule) → Spelled (then_rules list r)
+unfolding then_rules after_rule
+spelled_then_rules list r =
+    spelled_bind (gives (list ++ r ∷ [])) (more next_rule) (spelled_gives (list ++ r ∷ []))
+    (λ a. spelled_more next_rule a)
+
+part_has : (xs ys : List Token) (w : RuleWord) → Took rule_of xs w ys → behind_part (next xs) ≡ false
+unfolding behind_part has
+part_has xs ys w k =
+    let h : is_some (rule_of k.head) ≡ true = ap is_some k.value in
+    ap (λ x. behind_part (next x)) k.is ∙ ap not h
+
+leads_rule : (list : List ColumnRule) (xs ys : List Token) (w : RuleWord) → Took rule_of xs w ys →
+    Leads (more next_rule list) xs (bind (column_rule_behind w) (then_rules list)) ys behind_part
+unfolding next_rule behind_word after_rule then_rules
+leads_rule list xs ys w k =
+    leads_on (leads_more next_rule list behind_part xs (part_has xs ys w k))
+    (leads_on (leads_assoc (one rule_of) (behind_word list) (more next_rule) behind_part xs)
+    (leads_on (leads_one rule_of (λ x. bind (behind_word list x)
+    (more next_rule)) behind_part xs ys k.head w k.is k.value)
+    (leads_assoc (column_rule_behind w) (after_rule list) (more next_rule) behind_part ys)))
+
+pub rules_begun : (xs : List Token) (none : List ColumnRule) → none ≡ [] →
+    Leads (more next_rule []) xs (more next_rule none) xs behind_part
+rules_begun xs none e =
+    subst (λ x. Leads (more next_rule []) xs (more next_rule x) xs behind_part) (sym e) (record { to = λ o r. r })
+
+pub rules_go_on : (list longer : List ColumnRule) (ts xs ys zs : List Token) (w : RuleWord) (r : ColumnRule) →
+    longer ≡ list ++ r ∷ [] →
+    Leads (more next_rule []) ts (more next_rule list) xs behind_part → Took rule_of xs w ys → Reads
+    (column_rule_behind w) any ys (read r zs) →
+    Leads (more next_rule []) ts (more next_rule longer) zs behind_part
+unfolding then_rules after_rule
+rules_go_on list longer ts xs ys zs w r h a k q =
+    subst (λ x. Leads (more next_rule []) ts (more next_rule x) zs behind_part) (sym h)
+    (leads_on a (leads_on (leads_rule list xs ys w k)
+    (leads_on (leads_bind (column_rule_behind w) (then_rules list) any behind_part ys zs r q
+    (λ u. starts_any (then_rules list u) behind_part))
+    (leads_gives (list ++ r ∷ []) (more next_rule) behind_part zs))))
+
+pub rules_break_off : (list : List ColumnRule) (ts xs ys : List Token) (w : RuleWord) (f : Fault) →
+    Leads (more next_rule []) ts (more next_rule list) xs behind_part →
+    Took rule_of xs w ys → Reads (column_rule_behind w) any ys (failed f) → Reads (more next_rule []) behind_part ts
+    (failed f)
+rules_break_off list ts xs ys w f a k q =
+    a.to (failed f) ((leads_rule list xs ys w k).to (failed f)
+    (reads_bind_failed (column_rule_behind w) (then_rules list) any behind_part ys f q
+    (λ u. starts_any (then_rules list u) behind_part) (spelled_then_rules list)))
+
+pub rules_end : (list : List ColumnRule) (ts xs : List Token) →
+    Leads (more next_rule []) ts (more next_rule list) xs behind_part → Lacks rule_of xs →
+    Reads (more next_rule []) behind_part ts (read list xs)
+unfolding next_rule behind_word after_rule
+rules_end list ts xs a lacks =
+    a.to (read list xs) ((leads_no_more next_rule list any behind_part xs
+    (bars_bind any any (one rule_of) (behind_word list) 1 xs (bars_one any rule_of 0 xs
+    (λ u x n h. lacks.lacks u x n h)) (λ w. starts_any (behind_word list w) any))
+    (λ u. starts_any (more next_rule u) behind_part)).to (read list xs)
+    (reads_gives list list behind_part xs refl))
+
+-- a constraint
+pub spelled_by_word : Spelled (bind (one constraint_of) table_constraint_behind)
+spelled_by_word = spelled_bind (one constraint_of) table_constraint_behind spelled_constraint spelled_table_constraint
+
+pub word_constraint_read : (xs ys : List Token) (w : ConstraintWord) (o : Seen Token TableConstraint) →
+    Reads (one constraint_of) any xs (read w ys) → Reads (table_constraint_behind w) any ys o →
+    Reads (bind (one constraint_of) table_constraint_behind) any xs o
+word_constraint_read xs ys w o r q =
+    part_read (one constraint_of) table_constraint_behind any any xs ys w o r
+    (λ u. starts_any (table_constraint_behind u) any) q
+
+pub word_constraint_failed : (xs : List Token) (f : Fault) → Reads (one constraint_of) any xs (failed f) →
+    Reads (bind (one constraint_of) table_constraint_behind) any xs (failed f)
+word_constraint_failed xs f r =
+    reads_bind_failed (one constraint_of) table_constraint_behind any any xs f r
+    (λ u. starts_any (table_constraint_behind u) any) spelled_table_constraint
+
+by_words : (b : Option Token → Bool) → b (Some (t.Keyword k.Primary)) ≡ true → b (Some (t.Keyword k.Unique)) ≡ true →
+    b (Some (t.Keyword k.Check)) ≡ true →
+    (u : Token) (x : ConstraintWord) → constraint_of u ≡ Some x → b (Some u) ≡ true
+unfolding constraint_of
+by_words b h i j (t.Keyword k.Primary) x e = h
+by_words b h i j (t.Keyword k.Unique) x e = i
+by_words b h i j (t.Keyword k.Check) x e = j
+by_words b h i j _ x e = absurd (cc e)
+
+starts_by_word : (b g : Option Token → Bool) → b (Some (t.Keyword k.Primary)) ≡ true →
+    b (Some (t.Keyword k.Unique)) ≡ true → b (Some (t.Keyword k.Check)) ≡ true →
+    Starts b (bind (one constraint_of) table_constraint_behind) g
+starts_by_word b g h i j =
+    starts_bind b any g (one constraint_of) table_constraint_behind (starts_one b any constraint_of (by_words b h i j))
+    (λ w. starts_any (table_constraint_behind w) g)
+
+pub constraint_name_read : (xs ys zs : List Token) (v : List ℕ) → xs ≡ t.Keyword k.Constraint ∷ ys →
+    Reads name any ys (read v zs) →
+    Reads (optional (word k.Constraint name)) behind_constraint_name xs (read (Some v) zs)
+constraint_name_read xs ys zs v e r =
+    some_read (t.Keyword k.Constraint) name any behind_constraint_name
+    (λ o h. refl) xs ys zs v constraint_goes_on_constraint_name e r
+
+pub constraint_name_failed : (xs ys : List Token) (f : Fault) → xs ≡ t.Keyword k.Constraint ∷ ys →
+    Reads name any ys (failed f) →
+    Reads (optional (word k.Constraint name)) behind_constraint_name xs (failed f)
+constraint_name_failed xs ys f e r =
+    some_failed (t.Keyword k.Constraint) name any behind_constraint_name
+    (λ o h. refl) xs ys f constraint_goes_on_constraint_name e r
+
+pub constraint_name_none : (xs : List Token) → Misses (t.Keyword k.Constraint) xs →
+    Reads (optional (word k.Constraint name)) behind_constraint_name xs (read None xs)
+constraint_name_none xs miss = none_read (t.Keyword k.Constraint) name behind_constraint_name xs miss
+
+column_part_made : (v1 : List ℕ) → (v2 : Kind) → (v3 : List ColumnRule) → TablePart
+column_part_made v1 v2 v3 = part_of.Column (record { name = v1; kind = v2; rules = v3 })
+
+column_part_3 : (v1 : List ℕ) → (v2 : Kind) → (v3 : List ColumnRule) → Lang Token TablePart
+column_part_3 v1 v2 v3 = gives (column_part_made v1 v2 v3)
+
+spelled_column_part_3 : (v1 : List ℕ) → (v2 : Kind) → (v3 : List ColumnRule) → Spelled (column_part_3 v1 v2 v3)
+unfolding column_part_3
+spelled_column_part_3 v1 v2 v3 = spelled_gives (column_part_made v1 v2 v3)
+
+column_part_2 : (v1 : List ℕ) → (v2 : Kind) → Lang Token TablePart
+column_part_2 v1 v2 = bind (more next_rule []) (column_part_3 v1 v2)
+
+spelled_column_part_2 : (v1 : List ℕ) → (v2 : Kind) → Spelled (column_part_2 v1 v2)
+unfolding column_part_2
+spelled_column_part_2 v1 v2 =
+    spelled_bind (more next_rule []) (column_part_3 v1 v2) (spelled_more next_rule [])
+    (λ u. spelled_column_part_3 v1 v2 u)
+
+column_part_1 : (v1 : List ℕ) → Lang Token TablePart
+column_part_1 v1 = bind (one kind_of) (column_part_2 v1)
+
+spelled_column_part_1 : (v1 : List ℕ) → Spelled (column_part_1 v1)
+unfolding column_part_1
+spelled_column_part_1 v1 = spelled_bind (one kind_of) (column_part_2 v1) spelled_kind (λ u. spelled_column_part_2 v1 u)
+
+pub spelled_column_part : Spelled (column_part)
+unfolding column_part column_part_1 column_part_2 column_part_3 column_part_made
+spelled_column_part = spelled_bind name (column_part_1) spelled_name (λ u. spelled_column_part_1 u)
+
+starts_column_part_1 : (v1 : List ℕ) → Starts any (column_part_1 v1) behind_part
+unfolding column_part_1 column_part_2 column_part_3 column_part_made
+starts_column_part_1 v1 = starts_any (column_part_1 v1) behind_part
+
+starts_column_part_2 : (v1 : List ℕ) → (v2 : Kind) → Starts any (column_part_2 v1 v2) behind_part
+unfolding column_part_1 column_part_2 column_part_3 column_part_made
+starts_column_part_2 v1 v2 = starts_any (column_part_2 v1 v2) behind_part
+
+starts_column_part_3 : (v1 : List ℕ) → (v2 : Kind) → (v3 : List ColumnRule) →
+    Starts behind_part (column_part_3 v1 v2 v3) behind_part
+unfolding column_part_1 column_part_2 column_part_3 column_part_made
+starts_column_part_3 v1 v2 v3 = starts_gives behind_part behind_part (column_part_made v1 v2 v3) (λ o e. e)
+
+pub column_part_at_0 : (xs : List Token) (f : Fault) → Reads name any xs (failed f) →
+    Reads (column_part) behind_part xs (failed f)
+unfolding column_part column_part_1 column_part_2 column_part_3 column_part_made
+column_part_at_0 xs f e1 =
+    reads_bind_failed name (column_part_1) any behind_part xs f e1 (λ v1. starts_column_part_1 v1)
+    (λ v1. spelled_column_part_1 v1)
+
+pub column_part_at_1 : (xs y1 : List Token) (v1 : List ℕ) (f : Fault) → Reads name any xs (read v1 y1) →
+    Reads (one kind_of) any y1 (failed f) →
+    Reads (column_part) behind_part xs (failed f)
+unfolding column_part column_part_1 column_part_2 column_part_3 column_part_made
+column_part_at_1 xs y1 v1 f e1 e2 =
+    part_read name (column_part_1) any behind_part xs y1 v1 (failed f) e1 (λ v1. starts_column_part_1 v1)
+    (reads_bind_failed (one kind_of) (column_part_2 v1) any behind_part y1 f e2 (λ v2. starts_column_part_2 v1 v2)
+    (λ v2. spelled_column_part_2 v1 v2))
+
+pub column_part_at_2 : (xs y1 y2 : List Token) (v1 : List ℕ) (v2 : Kind) (f : Fault) → Reads name any xs (read v1 y1) →
+    Reads (one kind_of) any y1 (read v2 y2) →
+    Reads (more next_rule []) behind_part y2 (failed f) →
+    Reads (column_part) behind_part xs (failed f)
+unfolding column_part column_part_1 column_part_2 column_part_3 column_part_made
+column_part_at_2 xs y1 y2 v1 v2 f e1 e2 e3 =
+    part_read name (column_part_1) any behind_part xs y1 v1 (failed f) e1 (λ v1. starts_column_part_1 v1)
+    (part_read (one kind_of) (column_part_2 v1) any behind_part y1 y2 v2 (failed f) e2
+    (λ v2. starts_column_part_2 v1 v2)
+    (reads_bind_failed (more next_rule []) (column_part_3 v1 v2) behind_part behind_part y2 f e3
+    (λ v3. starts_column_part_3 v1 v2 v3) (λ v3. spelled_column_part_3 v1 v2 v3)))
+
+pub column_part_at_3 : (xs y1 y2 y3 : List Token) (v1 : List ℕ) (v2 : Kind) (v3 : List ColumnRule) →
+    Reads name any xs (read v1 y1) →
+    Reads (one kind_of) any y1 (read v2 y2) →
+    Reads (more next_rule []) behind_part y2 (read v3 y3) →
+    Reads (column_part) behind_part xs (read (part_of.Column (record { name = v1; kind = v2; rules = v3 })) y3)
+unfolding column_part column_part_1 column_part_2 column_part_3 column_part_made
+column_part_at_3 xs y1 y2 y3 v1 v2 v3 e1 e2 e3 =
+    part_read name (column_part_1) any behind_part xs y1 v1 (read
+    (part_of.Column (record { name = v1; kind = v2; rules = v3 })) y3) e1 (λ v1. starts_column_part_1 v1)
+    (part_read (one kind_of) (column_part_2 v1) any behind_part y1 y2 v2
+    (read (part_of.Column (record { name = v1; kind = v2; rules = v3 })) y3) e2 (λ v2. starts_column_part_2 v1 v2)
+    (part_read (more next_rule []) (column_part_3 v1 v2) behind_part behind_part y2 y3 v3
+    (read (part_of.Column (record { name = v1; kind = v2; rules = v3 })) y3) e3 (λ v3. starts_column_part_3 v1 v2 v3)
+    (reads_gives (column_part_made v1 v2 v3) (column_part_made v1 v2 v3) behind_part y3 refl)))
+
+constraint_part_made : (v1 : Option (List ℕ)) → (v2 : TableConstraint) → TablePart
+constraint_part_made v1 v2 = part_of.Constraint v1 v2
+
+constraint_part_2 : (v1 : Option (List ℕ)) → (v2 : TableConstraint) → Lang Token TablePart
+constraint_part_2 v1 v2 = gives (constraint_part_made v1 v2)
+
+spelled_constraint_part_2 : (v1 : Option (List ℕ)) → (v2 : TableConstraint) → Spelled (constraint_part_2 v1 v2)
+unfolding constraint_part_2
+spelled_constraint_part_2 v1 v2 = spelled_gives (constraint_part_made v1 v2)
+
+constraint_part_1 : (v1 : Option (List ℕ)) → Lang Token TablePart
+constraint_part_1 v1 = bind (bind (one constraint_of) table_constraint_behind) (constraint_part_2 v1)
+
+spelled_constraint_part_1 : (v1 : Option (List ℕ)) → Spelled (constraint_part_1 v1)
+unfolding constraint_part_1
+spelled_constraint_part_1 v1 =
+    spelled_bind (bind (one constraint_of) table_constraint_behind) (constraint_part_2 v1) spelled_by_word
+    (λ u. spelled_constraint_part_2 v1 u)
+
+pub spelled_constraint_part : Spelled (constraint_part)
+unfolding constraint_part constraint_part_1 constraint_part_2 constraint_part_made
+spelled_constraint_part =
+    spelled_bind (optional (word k.Constraint name)) (constraint_part_1) (spelled_optional (word k.Constraint name))
+    (λ u. spelled_constraint_part_1 u)
+
+starts_constraint_part_1 : (v1 : Option (List ℕ)) → Starts behind_constraint_name (constraint_part_1 v1) any
+unfolding constraint_part_1 constraint_part_2 constraint_part_made
+starts_constraint_part_1 v1 =
+    starts_bind behind_constraint_name any any (bind (one constraint_of) table_constraint_behind) (constraint_part_2 v1)
+    (starts_by_word behind_constraint_name any primary_behind_constraint_name unique_behind_constraint_name check_behind_constraint_name) (λ v2. starts_any (constraint_part_2 v1 v2) any)
+
+starts_constraint_part_2 : (v1 : Option (List ℕ)) → (v2 : TableConstraint) → Starts any (constraint_part_2 v1 v2) any
+unfolding constraint_part_1 constraint_part_2 constraint_part_made
+starts_constraint_part_2 v1 v2 = starts_any (constraint_part_2 v1 v2) any
+
+pub constraint_part_at_0 : (xs : List Token) (f : Fault) →
+    Reads (optional (word k.Constraint name)) behind_constraint_name xs (failed f) →
+    Reads (constraint_part) any xs (failed f)
+unfolding constraint_part constraint_part_1 constraint_part_2 constraint_part_made
+constraint_part_at_0 xs f e1 =
+    reads_bind_failed (optional (word k.Constraint name)) (constraint_part_1) behind_constraint_name any xs f e1
+    (λ v1. starts_constraint_part_1 v1) (λ v1. spelled_constraint_part_1 v1)
+
+pub constraint_part_at_1 : (xs y1 : List Token) (v1 : Option (List ℕ)) (f : Fault) →
+    Reads (optional (word k.Constraint name)) behind_constraint_name xs (read v1 y1) →
+    Reads (bind (one constraint_of) table_constraint_behind) any y1 (failed f) →
+    Reads (constraint_part) any xs (failed f)
+unfolding constraint_part constraint_part_1 constraint_part_2 constraint_part_made
+constraint_part_at_1 xs y1 v1 f e1 e2 =
+    part_read (optional (word k.Constraint name)) (constraint_part_1) behind_constraint_name any xs y1 v1 (failed f) e1
+    (λ v1. starts_constraint_part_1 v1)
+    (reads_bind_failed (bind (one constraint_of) table_constraint_behind) (constraint_part_2 v1) any any y1 f e2
+    (λ v2. starts_constraint_part_2 v1 v2) (λ v2. spelled_constraint_part_2 v1 v2))
+
+pub constraint_part_at_2 : (xs y1 y2 : List Token) (v1 : Option (List ℕ)) (v2 : TableConstraint) →
+    Reads (optional (word k.Constraint name)) behind_constraint_name xs (read v1 y1) →
+    Reads (bind (one constraint_of) table_constraint_behind) any y1 (read v2 y2) →
+    Reads (constraint_part) any xs (read (part_of.Constraint v1 v2) y2)
+unfolding constraint_part constraint_part_1 constraint_part_2 constraint_part_made
+constraint_part_at_2 xs y1 y2 v1 v2 e1 e2 =
+    part_read (optional (word k.Constraint name)) (constraint_part_1) behind_constraint_name any xs y1 v1
+    (read (part_of.Constraint v1 v2) y2) e1 (λ v1. starts_constraint_part_1 v1)
+    (part_read (bind (one constraint_of) table_constraint_behind) (constraint_part_2 v1) any any y1 y2 v2
+    (read (part_of.Constraint v1 v2) y2) e2 (λ v2. starts_constraint_part_2 v1 v2)
+    (reads_gives (constraint_part_made v1 v2) (constraint_part_made v1 v2) any y2 refl))
+
+-- a column or a constraint, by the first token
+constraint_begins : begins_constraint (Some (t.Keyword k.Constraint)) ≡ true
+unfolding begins_constraint
+constraint_begins = refl
+
+starts_constraint_part : Starts begins_constraint constraint_part any
+unfolding constraint_part constraint_part_1 constraint_part_2 constraint_part_made begins_constraint
+starts_constraint_part =
+    starts_bind begins_constraint begins_constraint any (optional (word k.Constraint name)) constraint_part_1
+    (starts_optional (t.Keyword k.Constraint) name begins_constraint refl)
+    (λ n. starts_bind begins_constraint any any (bind (one constraint_of) table_constraint_behind) (constraint_part_2 n)
+    (starts_by_word begins_constraint any refl refl refl)
+    (λ c. starts_any (constraint_part_2 n c) any))
+
+no_name_begins : (u : Token) (x : List ℕ) → begins_constraint (Some u) ≡ true → name_of u ≡ Some x → ⊥
+unfolding begins_constraint name_of may_be_name
+no_name_begins (t.Keyword k.Constraint) x h e = let o : None ≡ Some x = e in cc o
+no_name_begins (t.Keyword k.Primary) x h e = let o : None ≡ Some x = e in cc o
+no_name_begins (t.Keyword k.Unique) x h e = let o : None ≡ Some x = e in cc o
+no_name_begins (t.Keyword k.Check) x h e = let o : None ≡ Some x = e in cc o
+no_name_begins _ x h e = false≢true h
+
+part_constraint : (xs : List Token) (o : Seen Token TablePart) → true ≡ begins_constraint (next xs) →
+    Reads constraint_part any xs o → Reads part behind_part xs o
+unfolding part column_part column_part_1 column_part_2 column_part_3 column_part_made name
+part_constraint xs o h r =
+    (leads_right (bind (one name_of) column_part_1) constraint_part behind_part xs
+    (bars_bind any behind_part (one name_of) column_part_1 1 xs
+    (bars_one any name_of 0 xs (λ u x n e. no_name_begins u x (ap begins_constraint (sym n) ∙ sym h) e))
+    (λ x. starts_any (column_part_1 x) behind_part))).to o
+    (reads_narrow constraint_part any behind_part xs o (λ o e. refl) r)
+
+any_bars : {V : Type 0} (L : Lang Token V) (g : Option Token → Bool) (j : ℕ) (xs : List Token) → Bars L any j xs →
+    Bars L g j xs
+any_bars L g j xs b = record { bars = λ m w v z e l c. b.bars m w v z e l refl }
+
+part_column : (xs : List Token) (o : Seen Token TablePart) → false ≡ begins_constraint (next xs) →
+    Reads column_part behind_part xs o → Reads part behind_part xs o
+unfolding part
+part_column xs o h r =
+    (leads_left column_part constraint_part behind_part xs
+    (any_bars constraint_part behind_part 1 xs
+    (bars_from begins_constraint any constraint_part 0 xs starts_constraint_part (sym h)))).to o r
+
+pub part_constraint_read : (xs ys : List Token) (v : TablePart) → true ≡ begins_constraint (next xs) →
+    Reads constraint_part any xs (read v ys) → Reads part behind_part xs (read v ys)
+part_constraint_read xs ys v h r = part_constraint xs (read v ys) h r
+
+pub part_constraint_failed : (xs : List Token) (f : Fault) → true ≡ begins_constraint (next xs) →
+    Reads constraint_part any xs (failed f) → Reads part behind_part xs (failed f)
+part_constraint_failed xs f h r = part_constraint xs (failed f) h r
+
+pub part_column_read : (xs ys : List Token) (v : TablePart) → false ≡ begins_constraint (next xs) →
+    Reads column_part behind_part xs (read v ys) → Reads part behind_part xs (read v ys)
+part_column_read xs ys v h r = part_column xs (read v ys) h r
+
+pub part_column_failed : (xs : List Token) (f : Fault) → false ≡ begins_constraint (next xs) →
+    Reads column_part behind_part xs (failed f) → Reads part behind_part xs (failed f)
+part_column_failed xs f h r = part_column xs (failed f) h r

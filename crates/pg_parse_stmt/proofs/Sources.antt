@@ -1,0 +1,17 @@
+-- Sources, and what they are seen as in a list.
+use Rattle.std.proofs.Common.{◌∷◌, ℕ, []}
+use Rattle.pg_grammar.specs.Languages.{more}
+use Rattle.pg_grammar.proofs.Words.{Spelled, spelled_bind, spelled_more}
+use Rattle.pg_parse_stmt.specs.Grammar.{SourceRule, table_source, one_source, alone, next_source, from_of}
+use Rattle.pg_parse_stmt.specs.Spellings.{spelled_table_source}
+use Rattle.pg_parse_stmt.proofs.Froms.{spelled_alone}
+
+pub spelled_from : {S : Type 0} (source : SourceRule S) (count : S → ℕ) (n : ℕ) → Spelled (source n) →
+    Spelled (from_of source count n)
+unfolding from_of
+spelled_from source count n a =
+    spelled_bind (alone (source n)) (λ x. more (next_source source count n) (x ∷ [])) (spelled_alone (source n) a)
+    (λ x. spelled_more (next_source source count n) (x ∷ []))
+
+pub spelled_tables : (n : ℕ) → Spelled (from_of table_source one_source n)
+spelled_tables n = spelled_from table_source one_source n (spelled_table_source n)

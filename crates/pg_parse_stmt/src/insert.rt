@@ -1,0 +1,357 @@
+//! INSERT, and what ON CONFLICT does.
+ghost use Rattle.pg_grammar.specs.Answers.{Reads};
+ghost use Rattle.pg_grammar.specs.Parts.{seen};
+ghost use Rattle.pg_parse_stmt.specs.Behind.{any, behind_columns, behind_condition, behind_target, behind_conflict, behind_on_conflict, behind_statement, behind_rows, behind_sets, is_open};
+ghost use Rattle.pg_parse_stmt.specs.Forms.{optional};
+ghost use Rattle.pg_parse_stmt.specs.Grammar.{assignment, sets, element, elements, columns, rows, target_elements, target_constraint, conflict_target, upsert, conflict_act, conflict, insert};
+
+use crate::front::{Read, accept_sign, accept_word, name};
+use crate::list::{Listed, expr, expr_in_brackets, list, list_in_brackets};
+use crate::select::{as_name, returning};
+use crate::source::{condition, subselect};
+use crate::tree::{
+    Assignment, Conflict, ConflictTarget, Element, Insert, Names, Rows, Tuple, Upsert,
+};
+use pg_grammar::{Fault, Part};
+use pg_lexer::{Keyword, NameText, Sign, Token};
+use pg_lists::Items;
+use std::alloc::Global;
+
+/// `name "=" expr`
+impl Listed for Assignment {
+    ghost use Rattle.pg_parse_stmt.specs.Spellings.{spelled_assignment};
+    ghost use Rattle.pg_parse_stmt.specs.After.{behind_expr_comma, behind_expr_close};
+    ghost use Rattle.pg_parse_expr.specs.Behind.{behind_expr};
+    ghost use Rattle.pg_parse_stmt.specs.Grammar.{assignment};
+
+    ghost rule = { assignment };
+
+    ghost follows = { behind_expr };
+
+    #[tactic(auto, using(crate::proofs::Assignments::assignment_at_0, crate::proofs::Assignments::assignment_at_1, crate::proofs::Assignments::assignment_at_2, crate::proofs::Assignments::assignment_at_3))]
+    fn read<'a>(alloc: Global, tokens: &'a [Token]) -> Read<'a, Assignment> {
+        let Part {
+            value: column,
+            rest,
+        } = match name(alloc, tokens) {
+            Ok(part) => part,
+            Err(fault) => return Err(fault),
+        };
+        let rest = match accept_sign(rest, Sign::Equal) {
+            Some(rest) => rest,
+            None => return Err(Fault::Syntax(rest.len())),
+        };
+        match expr(alloc, rest) {
+            Ok(Part { value, rest }) => Ok(Part {
+                value: Assignment { column, value },
+                rest,
+            }),
+            Err(fault) => Err(fault),
+        }
+    }
+
+    ghost comma = { behind_expr_comma };
+
+    ghost close = { behind_expr_close };
+
+    ghost spelled = { spelled_assignment };
+}
+
+/// `name | "(" expr ")"`
+impl Listed for Element {
+    ghost use Rattle.pg_parse_stmt.specs.Spellings.{spelled_element};
+    ghost use Rattle.std.proofs.Common.{refl};
+    ghost use Rattle.pg_parse_stmt.specs.Behind.{any};
+    ghost use Rattle.pg_parse_stmt.specs.Grammar.{element};
+
+    ghost rule = { element };
+
+    ghost follows = { any };
+
+    #[tactic(auto, using(crate::proofs::Elements::element_name, crate::proofs::Elements::element_no_name, crate::proofs::Elements::element_expr, crate::proofs::Elements::element_no_expr))]
+    fn read<'a>(alloc: Global, tokens: &'a [Token]) -> Read<'a, Element> {
+        match accept_sign(tokens, Sign::Open) {
+            Some(_) => match expr_in_brackets(alloc, tokens) {
+                Ok(Part { value, rest }) => Ok(Part {
+                    value: Element::Expr(value),
+                    rest,
+                }),
+                Err(fault) => Err(fault),
+            },
+            None => match name(alloc, tokens) {
+                Ok(Part { value, rest }) => Ok(Part {
+                    value: Element::Column(value),
+                    rest,
+                }),
+                Err(fault) => Err(fault),
+            },
+        }
+    }
+
+    ghost comma = { refl };
+
+    ghost close = { refl };
+
+    ghost spelled = { spelled_element };
+}
+
+/// `["(" names ")"]`
+#[tactic(auto, using(crate::proofs::Elements::columns_read, crate::proofs::Elements::columns_none))]
+pub(crate) fn columns<'a>(alloc: Global, tokens: &'a [Token]) -> Read<'a, Names>
+    ensures { Reads columns behind_columns tokens.now (seen result) }
+{
+    match accept_sign(tokens, Sign::Open) {
+        Some(_) => list_in_brackets::<NameText>(alloc, tokens),
+        None => Ok(Part {
+            value: Items::new(alloc),
+            rest: tokens,
+        }),
+    }
+}
+
+/// `VALUES tuple {"," tuple} | subselect`
+#[tactic(auto, using(crate::proofs::Inserts::rows_values_read, crate::proofs::Inserts::rows_values_failed, crate::proofs::Inserts::rows_query_read, crate::proofs::Inserts::rows_query_failed, crate::proofs::Inserts::rows_neither), unfolding(crate::specs::Grammar::tuples, crate::specs::Behind::behind_tuples))]
+fn rows<'a>(alloc: Global, tokens: &'a [Token]) -> Read<'a, Rows>
+    ensures { Reads rows behind_rows tokens.now (seen result) }
+{
+    if let Some(rest) = accept_word(tokens, Keyword::Values) {
+        return match list::<Tuple>(alloc, rest) {
+            Ok(Part { value, rest }) => Ok(Part {
+                value: Rows::Values(value),
+                rest,
+            }),
+            Err(fault) => Err(fault),
+        };
+    }
+    match accept_word(tokens, Keyword::Select) {
+        Some(rest) => match subselect(alloc, rest, 0) {
+            Ok(Part { value, rest }) => Ok(Part {
+                value: Rows::Query(value),
+                rest,
+            }),
+            Err(fault) => Err(fault),
+        },
+        None => Err(Fault::Syntax(tokens.len())),
+    }
+}
+
+/// `"(" element {"," element} ")" [WHERE expr]`
+#[tactic(auto, using(crate::proofs::Inserts::target_elements_at_0, crate::proofs::Inserts::target_elements_at_1, crate::proofs::Inserts::target_elements_at_2), unfolding(crate::specs::Grammar::elements))]
+fn target_elements<'a>(alloc: Global, tokens: &'a [Token]) -> Read<'a, ConflictTarget>
+    ensures { Reads target_elements behind_condition tokens.now (seen result) }
+{
+    let Part {
+        value: elements,
+        rest,
+    } = match list_in_brackets::<Element>(alloc, tokens) {
+        Ok(part) => part,
+        Err(fault) => return Err(fault),
+    };
+    match condition(alloc, rest) {
+        Ok(
+            Part {
+                value: predicate,
+                rest,
+            },
+        ) => Ok(Part {
+            value: ConflictTarget::Elements(elements, predicate),
+            rest,
+        }),
+        Err(fault) => Err(fault),
+    }
+}
+
+/// `ON CONSTRAINT name`
+#[tactic(auto, using(crate::proofs::Inserts::target_constraint_at_0, crate::proofs::Inserts::target_constraint_at_1, crate::proofs::Inserts::target_constraint_at_2, crate::proofs::Inserts::target_constraint_at_3))]
+fn target_constraint<'a>(alloc: Global, tokens: &'a [Token]) -> Read<'a, ConflictTarget>
+    ensures { Reads target_constraint any tokens.now (seen result) }
+{
+    let rest = match accept_word(tokens, Keyword::On) {
+        Some(rest) => rest,
+        None => return Err(Fault::Syntax(tokens.len())),
+    };
+    let rest = match accept_word(rest, Keyword::Constraint) {
+        Some(rest) => rest,
+        None => return Err(Fault::Syntax(rest.len())),
+    };
+    match name(alloc, rest) {
+        Ok(Part { value, rest }) => Ok(Part {
+            value: ConflictTarget::Constraint(value),
+            rest,
+        }),
+        Err(fault) => Err(fault),
+    }
+}
+
+/// `["(" element {"," element} ")" [WHERE expr] | ON CONSTRAINT name]`
+#[tactic(auto, using(crate::proofs::Inserts::target_elements_read, crate::proofs::Inserts::target_elements_failed, crate::proofs::Inserts::target_constraint_read, crate::proofs::Inserts::target_constraint_failed, crate::proofs::Inserts::target_none))]
+fn conflict_target<'a>(alloc: Global, tokens: &'a [Token]) -> Read<'a, Option<ConflictTarget>>
+    ensures { Reads (optional conflict_target) behind_target tokens.now (seen result) }
+{
+    if let Some(_) = accept_sign(tokens, Sign::Open) {
+        return match target_elements(alloc, tokens) {
+            Ok(Part { value, rest }) => Ok(Part {
+                value: Some(value),
+                rest,
+            }),
+            Err(fault) => Err(fault),
+        };
+    }
+    match accept_word(tokens, Keyword::On) {
+        Some(_) => match target_constraint(alloc, tokens) {
+            Ok(Part { value, rest }) => Ok(Part {
+                value: Some(value),
+                rest,
+            }),
+            Err(fault) => Err(fault),
+        },
+        None => Ok(Part {
+            value: None,
+            rest: tokens,
+        }),
+    }
+}
+
+/// `UPDATE SET sets [WHERE expr]`, behind DO.
+#[tactic(auto, using(crate::proofs::Inserts::upsert_at_0, crate::proofs::Inserts::upsert_at_1, crate::proofs::Inserts::upsert_at_2, crate::proofs::Inserts::upsert_at_3, crate::proofs::Inserts::upsert_at_4), unfolding(crate::specs::Grammar::sets, crate::specs::Behind::behind_sets))]
+fn upsert<'a>(alloc: Global, tokens: &'a [Token], target: ConflictTarget) -> Read<'a, Conflict>
+    ensures { Reads (upsert target) behind_conflict tokens.now (seen result) }
+{
+    let rest = match accept_word(tokens, Keyword::Update) {
+        Some(rest) => rest,
+        None => return Err(Fault::Syntax(tokens.len())),
+    };
+    let rest = match accept_word(rest, Keyword::Set) {
+        Some(rest) => rest,
+        None => return Err(Fault::Syntax(rest.len())),
+    };
+    let sets = match list::<Assignment>(alloc, rest) {
+        Ok(part) => part,
+        Err(fault) => return Err(fault),
+    };
+    match condition(alloc, sets.rest) {
+        Ok(
+            Part {
+                value: condition,
+                rest,
+            },
+        ) => Ok(Part {
+            value: Conflict::Update(Upsert {
+                target,
+                sets: sets.value,
+                condition,
+            }),
+            rest,
+        }),
+        Err(fault) => Err(fault),
+    }
+}
+
+/// `NOTHING`, or with a target `UPDATE`, behind DO.
+#[tactic(auto, using(crate::proofs::Inserts::act_nothing_read, crate::proofs::Inserts::act_upsert_read, crate::proofs::Inserts::act_upsert_failed, crate::proofs::Inserts::act_refused))]
+fn conflict_act<'a>(
+    alloc: Global,
+    tokens: &'a [Token],
+    target: Option<ConflictTarget>,
+) -> Read<'a, Conflict>
+    ensures { Reads (conflict_act target) behind_conflict tokens.now (seen result) }
+{
+    if let Some(rest) = accept_word(tokens, Keyword::Nothing) {
+        return Ok(Part {
+            value: Conflict::Nothing(target),
+            rest,
+        });
+    }
+    match target {
+        Some(target) => match upsert(alloc, tokens, target) {
+            Ok(part) => Ok(part),
+            Err(fault) => Err(fault),
+        },
+        None => Err(Fault::Syntax(tokens.len())),
+    }
+}
+
+/// `[ON CONFLICT [target] DO NOTHING | ON CONFLICT target DO UPDATE SET sets [WHERE expr]]`
+#[tactic(auto, using(crate::proofs::Inserts::conflict_none, crate::proofs::Inserts::conflict_no_word, crate::proofs::Inserts::conflict_no_target, crate::proofs::Inserts::conflict_no_do, crate::proofs::Inserts::conflict_no_act, crate::proofs::Inserts::conflict_read))]
+fn conflict<'a>(alloc: Global, tokens: &'a [Token]) -> Read<'a, Option<Conflict>>
+    ensures { Reads (optional conflict) behind_on_conflict tokens.now (seen result) }
+{
+    let rest = match accept_word(tokens, Keyword::On) {
+        Some(rest) => rest,
+        None => {
+            return Ok(Part {
+                value: None,
+                rest: tokens,
+            });
+        }
+    };
+    let rest = match accept_word(rest, Keyword::Conflict) {
+        Some(rest) => rest,
+        None => return Err(Fault::Syntax(rest.len())),
+    };
+    let target = match conflict_target(alloc, rest) {
+        Ok(part) => part,
+        Err(fault) => return Err(fault),
+    };
+    let rest = match accept_word(target.rest, Keyword::Do) {
+        Some(rest) => rest,
+        None => return Err(Fault::Syntax(target.rest.len())),
+    };
+    match conflict_act(alloc, rest, target.value) {
+        Ok(Part { value, rest }) => Ok(Part {
+            value: Some(value),
+            rest,
+        }),
+        Err(fault) => Err(fault),
+    }
+}
+
+/// `INTO name [AS name] ["(" names ")"] rows [conflict] [returning]`, behind INSERT.
+#[tactic(auto, using(crate::proofs::Inserts::insert_at_0, crate::proofs::Inserts::insert_at_1, crate::proofs::Inserts::insert_at_2, crate::proofs::Inserts::insert_at_3, crate::proofs::Inserts::insert_at_4, crate::proofs::Inserts::insert_at_5, crate::proofs::Inserts::insert_at_6, crate::proofs::Inserts::insert_at_7))]
+pub(crate) fn insert<'a>(alloc: Global, tokens: &'a [Token]) -> Read<'a, Insert>
+    ensures { Reads insert behind_statement tokens.now (seen result) }
+{
+    let rest = match accept_word(tokens, Keyword::Into) {
+        Some(rest) => rest,
+        None => return Err(Fault::Syntax(tokens.len())),
+    };
+    let table = match name(alloc, rest) {
+        Ok(part) => part,
+        Err(fault) => return Err(fault),
+    };
+    let alias = match as_name(alloc, table.rest) {
+        Ok(part) => part,
+        Err(fault) => return Err(fault),
+    };
+    let columns = match columns(alloc, alias.rest) {
+        Ok(part) => part,
+        Err(fault) => return Err(fault),
+    };
+    let rows = match rows(alloc, columns.rest) {
+        Ok(part) => part,
+        Err(fault) => return Err(fault),
+    };
+    let conflict = match conflict(alloc, rows.rest) {
+        Ok(part) => part,
+        Err(fault) => return Err(fault),
+    };
+    match returning(alloc, conflict.rest) {
+        Ok(
+            Part {
+                value: returning,
+                rest,
+            },
+        ) => Ok(Part {
+            value: Insert {
+                table: table.value,
+                alias: alias.value,
+                columns: columns.value,
+                rows: rows.value,
+                conflict: conflict.value,
+                returning,
+            },
+            rest,
+        }),
+        Err(fault) => Err(fault),
+    }
+}

@@ -1,0 +1,435 @@
+//! SELECT, and what it lists.
+ghost use Rattle.std.specs.Prelude.{◌≡◌, MatchOption};
+ghost use Rattle.pg_parse_stmt.specs.Expected.{Dotted, NotDotted, BeginsAllOf};
+ghost use Rattle.pg_grammar.specs.Answers.{Reads, read};
+ghost use Rattle.pg_grammar.specs.Parts.{seen};
+ghost use Rattle.pg_parse_stmt.specs.Behind.{any, behind_as, behind_item, behind_items, behind_returning, behind_direction, behind_nulls, behind_order_key, behind_order, behind_limit, behind_wait, behind_of, behind_locked, behind_locking, behind_statement};
+ghost use Rattle.pg_parse_stmt.specs.Grammar.{item, as_name, named_expr, returning, direction, nulls_by, nulls, order_key, order, limit, strength_behind, strength, of_table, lock_wait, locked, locking, select};
+
+use crate::front::{Read, accept_sign, accept_word, begins_name, integer, name};
+use crate::list::{Listed, expr, list};
+use crate::source::{condition, sources};
+use crate::tree::{Direction, Item, LockStrength, LockWait, Locking, NullsPlace, OrderKey, Select};
+use crate::word::{accept, expect};
+use pg_grammar::{Fault, Part};
+use pg_lexer::{Keyword, NameText, Sign, Token};
+use pg_lists::Items;
+use std::alloc::Global;
+
+/// The tokens behind `name "."`, if that stands first.
+#[tactic(auto, using(crate::proofs::Items::dotted_no_name, crate::proofs::Items::dotted_no_dot, crate::proofs::Items::dotted_read, crate::proofs::Items::dotted_none))]
+fn behind_dot(tokens: &[Token]) -> Option<&[Token]>
+    ensures { MatchOption result (NotDotted tokens.now) (λ rest. Dotted tokens.now rest.now) }
+{
+    if begins_name(tokens) {
+        match tokens.split_first() {
+            Some((_, rest)) => match accept_sign(rest, Sign::Dot) {
+                Some(rest) => Some(rest),
+                None => None,
+            },
+            None => None,
+        }
+    } else {
+        None
+    }
+}
+
+/// `name "." "*"`, where the name and what is behind are known.
+#[tactic(auto, using(crate::proofs::Items::item_all_of, crate::proofs::Items::item_no_name))]
+fn all_of<'a>(alloc: Global, tokens: &'a [Token], rest: &'a [Token]) -> Read<'a, Item>
+    requires { BeginsAllOf tokens.now rest.now }
+    ensures { Reads item behind_item tokens.now (seen result) }
+{
+    match name(alloc, tokens) {
+        Ok(Part { value, rest: _ }) => Ok(Part {
+            value: Item::AllOf(value),
+            rest,
+        }),
+        Err(fault) => Err(fault),
+    }
+}
+
+/// `expr [AS name]`
+#[tactic(auto, using(crate::proofs::Naming::named_expr_at_0, crate::proofs::Naming::named_expr_at_1, crate::proofs::Naming::named_expr_at_2))]
+fn named_expr<'a>(alloc: Global, tokens: &'a [Token]) -> Read<'a, Item>
+    ensures { Reads named_expr behind_item tokens.now (seen result) }
+{
+    let Part { value: expr, rest } = match expr(alloc, tokens) {
+        Ok(part) => part,
+        Err(fault) => return Err(fault),
+    };
+    match as_name(alloc, rest) {
+        Ok(Part { value: name, rest }) => Ok(Part {
+            value: Item::Expr(expr, name),
+            rest,
+        }),
+        Err(fault) => Err(fault),
+    }
+}
+
+/// `[AS name]`
+#[tactic(auto, using(crate::proofs::Naming::as_read, crate::proofs::Naming::as_failed, crate::proofs::Naming::as_none))]
+pub(crate) fn as_name<'a>(alloc: Global, tokens: &'a [Token]) -> Read<'a, Option<NameText>>
+    ensures { Reads as_name behind_as tokens.now (seen result) }
+{
+    match accept_word(tokens, Keyword::As) {
+        Some(rest) => match name(alloc, rest) {
+            Ok(Part { value, rest }) => Ok(Part {
+                value: Some(value),
+                rest,
+            }),
+            Err(fault) => Err(fault),
+        },
+        None => Ok(Part {
+            value: None,
+            rest: tokens,
+        }),
+    }
+}
+
+impl Listed for Item {
+    ghost use Rattle.pg_parse_stmt.specs.Spellings.{spelled_item};
+    ghost use Rattle.pg_parse_stmt.specs.After.{behind_item_comma, behind_item_close};
+    ghost use Rattle.pg_parse_stmt.specs.Behind.{behind_item};
+    ghost use Rattle.pg_parse_stmt.specs.Grammar.{item};
+
+    ghost rule = { item };
+
+    ghost follows = { behind_item };
+
+    #[tactic(auto, using(crate::proofs::Items::item_all, crate::proofs::Items::item_begins, crate::proofs::Items::item_expr, crate::proofs::Items::item_own))]
+    fn read<'a>(alloc: Global, tokens: &'a [Token]) -> Read<'a, Item> {
+        if let Some(rest) = accept_sign(tokens, Sign::Star) {
+            return Ok(Part {
+                value: Item::All,
+                rest,
+            });
+        }
+        match behind_dot(tokens) {
+            Some(behind) => match accept_sign(behind, Sign::Star) {
+                Some(rest) => all_of(alloc, tokens, rest),
+                None => named_expr(alloc, tokens),
+            },
+            None => named_expr(alloc, tokens),
+        }
+    }
+
+    ghost comma = { behind_item_comma };
+
+    ghost close = { behind_item_close };
+
+    ghost spelled = { spelled_item };
+}
+
+/// `[RETURNING items]`
+#[tactic(auto, using(crate::proofs::Orders::returning_read, crate::proofs::Orders::returning_none), unfolding(crate::specs::Grammar::items, crate::specs::Behind::behind_items))]
+pub(crate) fn returning<'a>(alloc: Global, tokens: &'a [Token]) -> Read<'a, Items<Item>>
+    ensures { Reads returning behind_returning tokens.now (seen result) }
+{
+    match accept_word(tokens, Keyword::Returning) {
+        Some(rest) => list::<Item>(alloc, rest),
+        None => Ok(Part {
+            value: Items::new(alloc),
+            rest: tokens,
+        }),
+    }
+}
+
+/// `[ASC | DESC]`
+#[tactic(auto, using(crate::proofs::Orders::direction_written, crate::proofs::Orders::direction_none))]
+fn direction(tokens: &[Token]) -> Part<'_, Token, Direction>
+    ensures { Reads direction behind_direction tokens.now (read result.value result.rest.now) }
+{
+    match accept::<Direction>(tokens) {
+        Some((value, rest)) => Part { value, rest },
+        None => Part {
+            value: Direction::Ascending,
+            rest: tokens,
+        },
+    }
+}
+
+/// Where NULL stands if it counts as the greatest value.
+fn nulls_by(direction: Direction) -> NullsPlace
+    ensures { result ≡ nulls_by direction }
+{
+    match direction {
+        Direction::Ascending => NullsPlace::Last,
+        Direction::Descending => NullsPlace::First,
+    }
+}
+
+/// `[NULLS (FIRST | LAST)]`, where NULL counts as the greatest value if it is not written.
+#[tactic(auto, using(crate::proofs::Orders::nulls_read, crate::proofs::Orders::nulls_none))]
+fn nulls(tokens: &[Token], direction: Direction) -> Read<'_, NullsPlace>
+    ensures { Reads (nulls direction) behind_nulls tokens.now (seen result) }
+{
+    match accept_word(tokens, Keyword::Nulls) {
+        Some(rest) => expect::<NullsPlace>(rest),
+        None => Ok(Part {
+            value: nulls_by(direction),
+            rest: tokens,
+        }),
+    }
+}
+
+impl Listed for OrderKey {
+    ghost use Rattle.pg_parse_stmt.specs.Spellings.{spelled_order_key};
+    ghost use Rattle.pg_parse_stmt.specs.After.{behind_order_key_comma, behind_order_key_close};
+    ghost use Rattle.pg_parse_stmt.specs.Behind.{behind_order_key};
+    ghost use Rattle.pg_parse_stmt.specs.Grammar.{order_key};
+
+    ghost rule = { order_key };
+
+    ghost follows = { behind_order_key };
+
+    #[tactic(auto, using(crate::proofs::Orders::order_key_at_0, crate::proofs::Orders::order_key_at_2, crate::proofs::Orders::order_key_at_3))]
+    fn read<'a>(alloc: Global, tokens: &'a [Token]) -> Read<'a, OrderKey> {
+        let Part { value: expr, rest } = match expr(alloc, tokens) {
+            Ok(part) => part,
+            Err(fault) => return Err(fault),
+        };
+        let Part {
+            value: direction,
+            rest,
+        } = direction(rest);
+        match nulls(rest, direction) {
+            Ok(Part { value: nulls, rest }) => Ok(Part {
+                value: OrderKey {
+                    expr,
+                    direction,
+                    nulls,
+                },
+                rest,
+            }),
+            Err(fault) => Err(fault),
+        }
+    }
+
+    ghost comma = { behind_order_key_comma };
+
+    ghost close = { behind_order_key_close };
+
+    ghost spelled = { spelled_order_key };
+}
+
+/// `[ORDER BY order_key {"," order_key}]`
+#[tactic(auto, using(crate::proofs::Orders::order_read, crate::proofs::Orders::order_no_by, crate::proofs::Orders::order_none))]
+fn order<'a>(alloc: Global, tokens: &'a [Token]) -> Read<'a, Items<OrderKey>>
+    ensures { Reads order behind_order tokens.now (seen result) }
+{
+    match accept_word(tokens, Keyword::Order) {
+        Some(rest) => match accept_word(rest, Keyword::By) {
+            Some(rest) => list::<OrderKey>(alloc, rest),
+            None => Err(Fault::Syntax(rest.len())),
+        },
+        None => Ok(Part {
+            value: Items::new(alloc),
+            rest: tokens,
+        }),
+    }
+}
+
+/// `[LIMIT integer]`
+#[tactic(auto, using(crate::proofs::Orders::limit_read, crate::proofs::Orders::limit_failed, crate::proofs::Orders::limit_none))]
+fn limit(tokens: &[Token]) -> Read<'_, Option<u64>>
+    ensures { Reads limit behind_limit tokens.now (seen result) }
+{
+    match accept_word(tokens, Keyword::Limit) {
+        Some(rest) => match integer(rest) {
+            Ok(Part { value, rest }) => Ok(Part {
+                value: Some(value),
+                rest,
+            }),
+            Err(fault) => Err(fault),
+        },
+        None => Ok(Part {
+            value: None,
+            rest: tokens,
+        }),
+    }
+}
+
+/// What is behind the first word of a strength.
+#[tactic(auto, using(crate::proofs::Locks::key_share, crate::proofs::Locks::key_no_share, crate::proofs::Locks::share, crate::proofs::Locks::update, crate::proofs::Locks::no_key_update, crate::proofs::Locks::no_key, crate::proofs::Locks::no_update))]
+fn strength_behind(tokens: &[Token], value: LockStrength) -> Read<'_, LockStrength>
+    ensures { Reads (strength_behind value) any tokens.now (seen result) }
+{
+    match value {
+        LockStrength::KeyShare => match accept_word(tokens, Keyword::Share) {
+            Some(rest) => Ok(Part { value, rest }),
+            None => Err(Fault::Syntax(tokens.len())),
+        },
+        LockStrength::NoKeyUpdate => match accept_word(tokens, Keyword::Key) {
+            Some(behind) => match accept_word(behind, Keyword::Update) {
+                Some(rest) => Ok(Part { value, rest }),
+                None => Err(Fault::Syntax(behind.len())),
+            },
+            None => Err(Fault::Syntax(tokens.len())),
+        },
+        LockStrength::Share => Ok(Part {
+            value,
+            rest: tokens,
+        }),
+        LockStrength::Update => Ok(Part {
+            value,
+            rest: tokens,
+        }),
+    }
+}
+
+/// `KEY SHARE | SHARE | NO KEY UPDATE | UPDATE`
+#[tactic(auto, using(crate::proofs::Locks::strength_read, crate::proofs::Locks::strength_failed))]
+fn strength(tokens: &[Token]) -> Read<'_, LockStrength>
+    ensures { Reads strength any tokens.now (seen result) }
+{
+    match expect::<LockStrength>(tokens) {
+        Ok(Part { value, rest }) => strength_behind(rest, value),
+        Err(fault) => Err(fault),
+    }
+}
+
+/// `[NOWAIT | SKIP LOCKED]`
+#[tactic(auto, using(crate::proofs::Locks::nowait_read, crate::proofs::Locks::skip_read, crate::proofs::Locks::skip_failed, crate::proofs::Locks::wait_read))]
+fn lock_wait(tokens: &[Token]) -> Read<'_, LockWait>
+    ensures { Reads lock_wait behind_wait tokens.now (seen result) }
+{
+    if let Some(rest) = accept_word(tokens, Keyword::Nowait) {
+        return Ok(Part {
+            value: LockWait::Fail,
+            rest,
+        });
+    }
+    match accept_word(tokens, Keyword::Skip) {
+        Some(behind) => match accept_word(behind, Keyword::Locked) {
+            Some(rest) => Ok(Part {
+                value: LockWait::Skip,
+                rest,
+            }),
+            None => Err(Fault::Syntax(behind.len())),
+        },
+        None => Ok(Part {
+            value: LockWait::Wait,
+            rest: tokens,
+        }),
+    }
+}
+
+/// `[OF name]`
+#[tactic(auto, using(crate::proofs::Locks::of_read, crate::proofs::Locks::of_failed, crate::proofs::Locks::of_none))]
+fn of_table<'a>(alloc: Global, tokens: &'a [Token]) -> Read<'a, Option<NameText>>
+    ensures { Reads of_table behind_of tokens.now (seen result) }
+{
+    match accept_word(tokens, Keyword::Of) {
+        Some(rest) => match name(alloc, rest) {
+            Ok(Part { value, rest }) => Ok(Part {
+                value: Some(value),
+                rest,
+            }),
+            Err(fault) => Err(fault),
+        },
+        None => Ok(Part {
+            value: None,
+            rest: tokens,
+        }),
+    }
+}
+
+/// `strength [OF name] [NOWAIT | SKIP LOCKED]`, behind FOR.
+#[tactic(auto, using(crate::proofs::Locks::locked_at_0, crate::proofs::Locks::locked_at_1, crate::proofs::Locks::locked_at_2, crate::proofs::Locks::locked_at_3))]
+fn locked<'a>(alloc: Global, tokens: &'a [Token]) -> Read<'a, Locking>
+    ensures { Reads locked behind_locked tokens.now (seen result) }
+{
+    let Part {
+        value: strength,
+        rest,
+    } = match strength(tokens) {
+        Ok(part) => part,
+        Err(fault) => return Err(fault),
+    };
+    let Part { value: table, rest } = match of_table(alloc, rest) {
+        Ok(part) => part,
+        Err(fault) => return Err(fault),
+    };
+    match lock_wait(rest) {
+        Ok(Part { value: wait, rest }) => Ok(Part {
+            value: Locking {
+                strength,
+                table,
+                wait,
+            },
+            rest,
+        }),
+        Err(fault) => Err(fault),
+    }
+}
+
+/// `[FOR strength [OF name] [NOWAIT | SKIP LOCKED]]`
+#[tactic(auto, using(crate::proofs::Locks::locking_read, crate::proofs::Locks::locking_failed, crate::proofs::Locks::locking_none))]
+fn locking<'a>(alloc: Global, tokens: &'a [Token]) -> Read<'a, Option<Locking>>
+    ensures { Reads locking behind_locking tokens.now (seen result) }
+{
+    match accept_word(tokens, Keyword::For) {
+        Some(rest) => match locked(alloc, rest) {
+            Ok(Part { value, rest }) => Ok(Part {
+                value: Some(value),
+                rest,
+            }),
+            Err(fault) => Err(fault),
+        },
+        None => Ok(Part {
+            value: None,
+            rest: tokens,
+        }),
+    }
+}
+
+/// `items FROM from [WHERE expr] [ORDER BY order_key {"," order_key}] [LIMIT integer] [FOR locked]`, behind SELECT.
+#[tactic(auto, using(crate::proofs::Selects::select_at_0, crate::proofs::Selects::select_at_1, crate::proofs::Selects::select_at_2, crate::proofs::Selects::select_at_3, crate::proofs::Selects::select_at_4, crate::proofs::Selects::select_at_5, crate::proofs::Selects::select_at_6, crate::proofs::Selects::select_at_7), unfolding(crate::specs::Grammar::items, crate::specs::Behind::behind_items))]
+pub(crate) fn select<'a>(alloc: Global, tokens: &'a [Token]) -> Read<'a, Select>
+    ensures { Reads select behind_statement tokens.now (seen result) }
+{
+    let items = match list::<Item>(alloc, tokens) {
+        Ok(part) => part,
+        Err(fault) => return Err(fault),
+    };
+    let rest = match accept_word(items.rest, Keyword::From) {
+        Some(rest) => rest,
+        None => return Err(Fault::Syntax(items.rest.len())),
+    };
+    let from = match sources(alloc, rest) {
+        Ok(part) => part,
+        Err(fault) => return Err(fault),
+    };
+    let condition = match condition(alloc, from.rest) {
+        Ok(part) => part,
+        Err(fault) => return Err(fault),
+    };
+    let order = match order(alloc, condition.rest) {
+        Ok(part) => part,
+        Err(fault) => return Err(fault),
+    };
+    let limit = match limit(order.rest) {
+        Ok(part) => part,
+        Err(fault) => return Err(fault),
+    };
+    match locking(alloc, limit.rest) {
+        Ok(
+            Part {
+                value: locking,
+                rest,
+            },
+        ) => Ok(Part {
+            value: Select {
+                items: items.value,
+                from: from.value,
+                condition: condition.value,
+                order: order.value,
+                limit: limit.value,
+                locking,
+            },
+            rest,
+        }),
+        Err(fault) => Err(fault),
+    }
+}

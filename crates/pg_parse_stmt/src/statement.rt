@@ -1,0 +1,236 @@
+//! A statement by its first word, and one on a line of its own.
+ghost use Rattle.pg_grammar.specs.Answers.{Reads, ReadsWhole, ends};
+ghost use Rattle.pg_grammar.specs.Languages.{bind, either, gives};
+ghost use Rattle.pg_grammar.specs.Parts.{seen};
+ghost use Rattle.pg_parse_stmt.specs.Behind.{any, behind_begin, behind_statement, behind_transaction};
+ghost use Rattle.pg_parse_stmt.specs.Grammar.{begin, committed, isolation, transaction, select as select_rule, insert as insert_rule, update as update_rule, delete as delete_rule, merge as merge_rule, create_table as table_rule, create_index as index_rule, statement_behind, statement, sentence};
+ghost use Rattle.pg_parse_stmt.specs.declared.tree.StmtTree.TheVariants as stmt;
+
+use crate::create::{create_index, create_table};
+use crate::front::{Read, accept_sign, accept_word};
+use crate::insert::insert;
+use crate::merge::merge;
+use crate::select::select;
+use crate::tree::StmtTree;
+use crate::update::{delete, update};
+use crate::word::{Lead, expect};
+use pg_grammar::{Fault, Part, whole};
+use pg_lexer::{Keyword, Sign, Token};
+use std::alloc::Global;
+
+/// `[WORK | TRANSACTION]`, behind the first word of a statement.
+#[tactic(auto, using(crate::proofs::Statements::work_read, crate::proofs::Statements::transaction_read, crate::proofs::Statements::neither_read))]
+fn transaction(tokens: &[Token], tree: StmtTree) -> Read<'_, StmtTree>
+    ensures { Reads (transaction tree) behind_transaction tokens.now (seen result) }
+{
+    match accept_word(tokens, Keyword::Work) {
+        Some(rest) => Ok(Part { value: tree, rest }),
+        None => match accept_word(tokens, Keyword::Transaction) {
+            Some(rest) => Ok(Part { value: tree, rest }),
+            None => Ok(Part {
+                value: tree,
+                rest: tokens,
+            }),
+        },
+    }
+}
+
+/// `LEVEL READ COMMITTED`, behind ISOLATION.
+#[tactic(auto, using(crate::proofs::Statements::committed_at_0, crate::proofs::Statements::committed_at_1, crate::proofs::Statements::committed_at_2, crate::proofs::Statements::committed_at_3))]
+fn committed(tokens: &[Token], tree: StmtTree) -> Read<'_, StmtTree>
+    ensures { Reads (committed tree) any tokens.now (seen result) }
+{
+    let rest = match accept_word(tokens, Keyword::Level) {
+        Some(rest) => rest,
+        None => return Err(Fault::Syntax(tokens.len())),
+    };
+    let rest = match accept_word(rest, Keyword::Read) {
+        Some(rest) => rest,
+        None => return Err(Fault::Syntax(rest.len())),
+    };
+    match accept_word(rest, Keyword::Committed) {
+        Some(rest) => Ok(Part { value: tree, rest }),
+        None => Err(Fault::Syntax(rest.len())),
+    }
+}
+
+/// `[ISOLATION LEVEL READ COMMITTED]`
+#[tactic(auto, using(crate::proofs::Statements::isolation_read, crate::proofs::Statements::isolation_failed, crate::proofs::Statements::isolation_none))]
+fn isolation(tokens: &[Token], tree: StmtTree) -> Read<'_, StmtTree>
+    ensures { Reads (isolation tree) behind_begin tokens.now (seen result) }
+{
+    match accept_word(tokens, Keyword::Isolation) {
+        Some(rest) => match committed(rest, tree) {
+            Ok(part) => Ok(part),
+            Err(fault) => Err(fault),
+        },
+        None => Ok(Part {
+            value: tree,
+            rest: tokens,
+        }),
+    }
+}
+
+/// `[WORK | TRANSACTION] [ISOLATION LEVEL READ COMMITTED]`, behind BEGIN.
+#[tactic(auto, using(crate::proofs::Statements::begin_read, crate::proofs::Statements::begin_not_read, crate::proofs::Statements::begin_failed))]
+fn begin(tokens: &[Token]) -> Read<'_, StmtTree>
+    ensures { Reads begin behind_begin tokens.now (seen result) }
+{
+    match transaction(tokens, StmtTree::Begin) {
+        Ok(Part { value, rest }) => match isolation(rest, value) {
+            Ok(part) => Ok(part),
+            Err(fault) => Err(fault),
+        },
+        Err(fault) => Err(fault),
+    }
+}
+
+/// What is behind SELECT.
+#[tactic(auto, using(crate::proofs::Statements::select_read, crate::proofs::Statements::select_failed))]
+fn select_statement<'a>(alloc: Global, tokens: &'a [Token]) -> Read<'a, StmtTree>
+    ensures { Reads (bind select_rule (λ x. gives (stmt.Select x))) behind_statement tokens.now (seen result) }
+{
+    match select(alloc, tokens) {
+        Ok(Part { value, rest }) => Ok(Part {
+            value: StmtTree::Select(value),
+            rest,
+        }),
+        Err(fault) => Err(fault),
+    }
+}
+
+/// What is behind INSERT.
+#[tactic(auto, using(crate::proofs::Statements::insert_read, crate::proofs::Statements::insert_failed))]
+fn insert_statement<'a>(alloc: Global, tokens: &'a [Token]) -> Read<'a, StmtTree>
+    ensures { Reads (bind insert_rule (λ x. gives (stmt.Insert x))) behind_statement tokens.now (seen result) }
+{
+    match insert(alloc, tokens) {
+        Ok(Part { value, rest }) => Ok(Part {
+            value: StmtTree::Insert(value),
+            rest,
+        }),
+        Err(fault) => Err(fault),
+    }
+}
+
+/// What is behind UPDATE.
+#[tactic(auto, using(crate::proofs::Statements::update_read, crate::proofs::Statements::update_failed))]
+fn update_statement<'a>(alloc: Global, tokens: &'a [Token]) -> Read<'a, StmtTree>
+    ensures { Reads (bind update_rule (λ x. gives (stmt.Update x))) behind_statement tokens.now (seen result) }
+{
+    match update(alloc, tokens) {
+        Ok(Part { value, rest }) => Ok(Part {
+            value: StmtTree::Update(value),
+            rest,
+        }),
+        Err(fault) => Err(fault),
+    }
+}
+
+/// What is behind DELETE.
+#[tactic(auto, using(crate::proofs::Statements::delete_read, crate::proofs::Statements::delete_failed))]
+fn delete_statement<'a>(alloc: Global, tokens: &'a [Token]) -> Read<'a, StmtTree>
+    ensures { Reads (bind delete_rule (λ x. gives (stmt.Delete x))) behind_statement tokens.now (seen result) }
+{
+    match delete(alloc, tokens) {
+        Ok(Part { value, rest }) => Ok(Part {
+            value: StmtTree::Delete(value),
+            rest,
+        }),
+        Err(fault) => Err(fault),
+    }
+}
+
+/// What is behind MERGE.
+#[tactic(auto, using(crate::proofs::Statements::merge_read, crate::proofs::Statements::merge_failed))]
+fn merge_statement<'a>(alloc: Global, tokens: &'a [Token]) -> Read<'a, StmtTree>
+    ensures { Reads (bind merge_rule (λ x. gives (stmt.Merge x))) behind_statement tokens.now (seen result) }
+{
+    match merge(alloc, tokens) {
+        Ok(Part { value, rest }) => Ok(Part {
+            value: StmtTree::Merge(value),
+            rest,
+        }),
+        Err(fault) => Err(fault),
+    }
+}
+
+/// What is behind CREATE.
+#[tactic(auto, using(crate::proofs::Statements::create_table_read, crate::proofs::Statements::create_table_failed, crate::proofs::Statements::create_index_read, crate::proofs::Statements::create_index_failed))]
+fn create<'a>(alloc: Global, tokens: &'a [Token]) -> Read<'a, StmtTree>
+    ensures { Reads (either table_rule index_rule) behind_statement tokens.now (seen result) }
+{
+    match accept_word(tokens, Keyword::Table) {
+        Some(_) => match create_table(alloc, tokens) {
+            Ok(part) => Ok(part),
+            Err(fault) => Err(fault),
+        },
+        None => match create_index(alloc, tokens) {
+            Ok(part) => Ok(part),
+            Err(fault) => Err(fault),
+        },
+    }
+}
+
+/// What is behind the first word of a statement, in a version of the language.
+#[tactic(auto, using(crate::proofs::Statements::behind_begin_word, crate::proofs::Statements::behind_commit_word, crate::proofs::Statements::behind_rollback_word, crate::proofs::Statements::behind_select_word, crate::proofs::Statements::behind_insert_word, crate::proofs::Statements::behind_update_word, crate::proofs::Statements::behind_delete_word, crate::proofs::Statements::behind_merge_word, crate::proofs::Statements::behind_create_word))]
+fn statement_behind<'a>(
+    alloc: Global,
+    _version: u32,
+    tokens: &'a [Token],
+    lead: Lead,
+) -> Read<'a, StmtTree>
+    ensures { Reads (statement_behind _version lead) behind_statement tokens.now (seen result) }
+{
+    match lead {
+        Lead::Begin => begin(tokens),
+        Lead::Commit => transaction(tokens, StmtTree::Commit),
+        Lead::Rollback => transaction(tokens, StmtTree::Rollback),
+        Lead::Select => select_statement(alloc, tokens),
+        Lead::Insert => insert_statement(alloc, tokens),
+        Lead::Update => update_statement(alloc, tokens),
+        Lead::Delete => delete_statement(alloc, tokens),
+        Lead::Merge => merge_statement(alloc, tokens),
+        Lead::Create => create(alloc, tokens),
+    }
+}
+
+/// A statement, in a version of the language.
+#[tactic(auto, using(crate::proofs::Statements::statement_read, crate::proofs::Statements::statement_not_read, crate::proofs::Statements::statement_failed))]
+fn statement<'a>(alloc: Global, version: u32, tokens: &'a [Token]) -> Read<'a, StmtTree>
+    ensures { Reads (statement version) behind_statement tokens.now (seen result) }
+{
+    match expect::<Lead>(tokens) {
+        Ok(Part { value: lead, rest }) => match statement_behind(alloc, version, rest, lead) {
+            Ok(part) => Ok(part),
+            Err(fault) => Err(fault),
+        },
+        Err(fault) => Err(fault),
+    }
+}
+
+/// A statement, and one `;` that may end it.
+#[tactic(auto, using(crate::proofs::Statements::sentence_closed, crate::proofs::Statements::sentence_open, crate::proofs::Statements::sentence_failed))]
+fn sentence<'a>(alloc: Global, version: u32, tokens: &'a [Token]) -> Read<'a, StmtTree>
+    ensures { Reads (sentence version) ends tokens.now (seen result) }
+{
+    let Part { value, rest } = match statement(alloc, version, tokens) {
+        Ok(part) => part,
+        Err(fault) => return Err(fault),
+    };
+    match accept_sign(rest, Sign::Semicolon) {
+        Some(rest) => Ok(Part { value, rest }),
+        None => Ok(Part { value, rest }),
+    }
+}
+
+/// The statement that all of the tokens are, in a version of the language.
+#[tactic(auto, using(crate::proofs::Statements::whole_read, crate::proofs::Statements::whole_failed))]
+pub fn read_statement(alloc: Global, version: u32, tokens: &[Token]) -> Result<StmtTree, Fault>
+    ensures { ReadsWhole (sentence version) tokens.now result }
+{
+    match sentence(alloc, version, tokens) {
+        Ok(part) => whole(part),
+        Err(fault) => Err(fault),
+    }
+}
