@@ -8,47 +8,47 @@ use Rattle.pg_ending.specs.Totals.{numbers_at, total, totals, EachParty}
 
 module _ {X : Type 0} where
   -- a relation of parties that follows from another
-  pub each_weaker : (R Q : ℕ → X → X → Type 0) → ((p : ℕ) (x y : X) → R p x y → Q p x y) → (place : ℕ)
-      (xs ys : List X) → EachParty R place xs ys → EachParty Q place xs ys
-  each_weaker R Q f place [] [] h = tt
-  each_weaker R Q f place [] (y ∷ ys) h = absurd h
-  each_weaker R Q f place (x ∷ xs) [] h = absurd h
-  each_weaker R Q f place (x ∷ xs) (y ∷ ys) h = (f place x y h.0, each_weaker R Q f (suc place) xs ys h.1)
+  pub each_weaker : (R Q : ℕ → X → X → Type 0) → ((p : ℕ) (x y : X) → R p x y → Q p x y) → (party : ℕ)
+      (xs ys : List X) → EachParty R party xs ys → EachParty Q party xs ys
+  each_weaker R Q f party [] [] h = tt
+  each_weaker R Q f party [] (y ∷ ys) h = absurd h
+  each_weaker R Q f party (x ∷ xs) [] h = absurd h
+  each_weaker R Q f party (x ∷ xs) (y ∷ ys) h = (f party x y h.0, each_weaker R Q f (suc party) xs ys h.1)
 
-  -- it holds party by party, if it holds at each place
-  pub each_from : (R : ℕ → X → X → Type 0) (place : ℕ) (xs ys : List X) (d : X) → length xs ≡ length ys →
-      ((i q : ℕ) → i < length xs → q ≡ place + i → R q (get_or xs i d) (get_or ys i d)) → EachParty R place xs ys
-  each_from R place [] [] d l h = tt
-  each_from R place [] (y ∷ ys) d l h = absurd (omega (arith, l))
-  each_from R place (x ∷ xs) [] d l h = absurd (omega (arith, l))
-  each_from R place (x ∷ xs) (y ∷ ys) d l h =
-      (h zero place (omega arith) (omega arith), each_from R (suc place) xs ys d (suc_inj l) (λ i q b e. h (suc i) q (omega (arith, b)) (omega (arith, e))))
+  -- it holds party by party, if it holds of each
+  pub each_from : (R : ℕ → X → X → Type 0) (party : ℕ) (xs ys : List X) (d : X) → length xs ≡ length ys →
+      ((i q : ℕ) → i < length xs → q ≡ party + i → R q (get_or xs i d) (get_or ys i d)) → EachParty R party xs ys
+  each_from R party [] [] d l h = tt
+  each_from R party [] (y ∷ ys) d l h = absurd (omega (arith, l))
+  each_from R party (x ∷ xs) [] d l h = absurd (omega (arith, l))
+  each_from R party (x ∷ xs) (y ∷ ys) d l h =
+      (h zero party (omega arith) (omega arith), each_from R (suc party) xs ys d (suc_inj l) (λ i q b e. h (suc i) q (omega (arith, b)) (omega (arith, e))))
 
   -- where each record is changed by one function
-  pub each_map : (R : ℕ → X → X → Type 0) (g : X → X) → ((p : ℕ) (x : X) → R p x (g x)) → (place : ℕ)
-      (xs : List X) → EachParty R place xs (map g xs)
-  each_map R g h place [] = tt
-  each_map R g h place (x ∷ xs) = (h place x, each_map R g h (suc place) xs)
+  pub each_map : (R : ℕ → X → X → Type 0) (g : X → X) → ((p : ℕ) (x : X) → R p x (g x)) → (party : ℕ)
+      (xs : List X) → EachParty R party xs (map g xs)
+  each_map R g h party [] = tt
+  each_map R g h party (x ∷ xs) = (h party x, each_map R g h (suc party) xs)
 
   -- where one record besides is replaced
-  pub each_set : (R : ℕ → X → X → Type 0) (place : ℕ) (xs ys : List X) (i q : ℕ) (z d : X) →
-      EachParty R place xs ys → q ≡ place + i → R q (get_or xs i d) z → EachParty R place xs (set ys i z)
-  each_set R place [] [] i q z d h e r = tt
-  each_set R place [] (y ∷ ys) i q z d h e r = absurd h
-  each_set R place (x ∷ xs) [] i q z d h e r = absurd h
-  each_set R place (x ∷ xs) (y ∷ ys) zero q z d h e r =
-      let s : q ≡ place = omega (arith, e) in (subst (λ p. R p x z) s r, h.1)
-  each_set R place (x ∷ xs) (y ∷ ys) (suc i) q z d h e r = (h.0, each_set R (suc place) xs ys i q z d h.1 (omega (arith, e)) r)
+  pub each_set : (R : ℕ → X → X → Type 0) (party : ℕ) (xs ys : List X) (i q : ℕ) (z d : X) →
+      EachParty R party xs ys → q ≡ party + i → R q (get_or xs i d) z → EachParty R party xs (set ys i z)
+  each_set R party [] [] i q z d h e r = tt
+  each_set R party [] (y ∷ ys) i q z d h e r = absurd h
+  each_set R party (x ∷ xs) [] i q z d h e r = absurd h
+  each_set R party (x ∷ xs) (y ∷ ys) zero q z d h e r =
+      let s : q ≡ party = omega (arith, e) in (subst (λ p. R p x z) s r, h.1)
+  each_set R party (x ∷ xs) (y ∷ ys) (suc i) q z d h e r = (h.0, each_set R (suc party) xs ys i q z d h.1 (omega (arith, e)) r)
 
   -- one party's record is replaced: the sum without its number stays
-  pub total_set : (f : ℕ → X → ℕ) (place : ℕ) (xs : List X) (i q : ℕ) (y d : X) → i < length xs → q ≡ place + i →
-      total f place (set xs i y) + f q (get_or xs i d) ≡ total f place xs + f q y
-  total_set f place [] i q y d h e = absurd (omega (arith, h))
-  total_set f place (x ∷ xs) zero q y d h e =
-      let s : q ≡ place = omega (arith, e) in
+  pub total_set : (f : ℕ → X → ℕ) (party : ℕ) (xs : List X) (i q : ℕ) (y d : X) → i < length xs → q ≡ party + i →
+      total f party (set xs i y) + f q (get_or xs i d) ≡ total f party xs + f q y
+  total_set f party [] i q y d h e = absurd (omega (arith, h))
+  total_set f party (x ∷ xs) zero q y d h e =
+      let s : q ≡ party = omega (arith, e) in
       rw s (omega arith)
-  total_set f place (x ∷ xs) (suc i) q y d h e =
-      let t = total_set f (suc place) xs i q y d (omega (arith, h)) (omega (arith, e)) in omega (arith, t)
+  total_set f party (x ∷ xs) (suc i) q y d h e =
+      let t = total_set f (suc party) xs i q y d (omega (arith, h)) (omega (arith, e)) in omega (arith, t)
 
   numbers_length : (fs : List (ℕ → X → ℕ)) (xs ys : List X) → length (totals fs xs) ≡ length (totals fs ys)
   numbers_length [] xs ys = refl
@@ -77,7 +77,7 @@ module _ {X : Type 0} where
       let rest = totals_stay fs xs i y d h behind in
       cc
 
-  -- the same two, at the record that stands at a place
+  -- the same two, at the record that a party has
   pub totals_fall_at : (fs : List (ℕ → X → ℕ)) (xs : List X) (i : ℕ) (x y : X) → slice_get xs i ≡ Some x →
       IsLess (numbers_at fs i y) (numbers_at fs i x) → IsLess (totals fs (set xs i y)) (totals fs xs)
   totals_fall_at fs xs i x y e less =
@@ -89,32 +89,32 @@ module _ {X : Type 0} where
       totals_stay fs xs i y x (slice_get_within xs i x e) (rw (get_or_from_slice_get xs i x x e) same)
 
   -- many parties change at once: a number that each keeps, or that none raises, or that one lowers besides
-  pub total_same : (f : ℕ → X → ℕ) (place : ℕ) (xs ys : List X) → EachParty (λ p x y. f p y ≡ f p x) place xs ys →
-      total f place ys ≡ total f place xs
-  total_same f place [] [] h = refl
-  total_same f place [] (y ∷ ys) h = absurd h
-  total_same f place (x ∷ xs) [] h = absurd h
-  total_same f place (x ∷ xs) (y ∷ ys) h = let t = total_same f (suc place) xs ys h.1 in omega (arith, t, h.0)
+  pub total_same : (f : ℕ → X → ℕ) (party : ℕ) (xs ys : List X) → EachParty (λ p x y. f p y ≡ f p x) party xs ys →
+      total f party ys ≡ total f party xs
+  total_same f party [] [] h = refl
+  total_same f party [] (y ∷ ys) h = absurd h
+  total_same f party (x ∷ xs) [] h = absurd h
+  total_same f party (x ∷ xs) (y ∷ ys) h = let t = total_same f (suc party) xs ys h.1 in omega (arith, t, h.0)
 
-  pub total_most : (f : ℕ → X → ℕ) (place : ℕ) (xs ys : List X) → EachParty (λ p x y. f p y ≤ f p x) place xs ys →
-      total f place ys ≤ total f place xs
-  total_most f place [] [] h = omega arith
-  total_most f place [] (y ∷ ys) h = absurd h
-  total_most f place (x ∷ xs) [] h = absurd h
-  total_most f place (x ∷ xs) (y ∷ ys) h = let t = total_most f (suc place) xs ys h.1 in omega (arith, t, h.0)
+  pub total_most : (f : ℕ → X → ℕ) (party : ℕ) (xs ys : List X) → EachParty (λ p x y. f p y ≤ f p x) party xs ys →
+      total f party ys ≤ total f party xs
+  total_most f party [] [] h = omega arith
+  total_most f party [] (y ∷ ys) h = absurd h
+  total_most f party (x ∷ xs) [] h = absurd h
+  total_most f party (x ∷ xs) (y ∷ ys) h = let t = total_most f (suc party) xs ys h.1 in omega (arith, t, h.0)
 
-  pub total_less : (f : ℕ → X → ℕ) (place : ℕ) (xs ys : List X) (i q : ℕ) (d : X) →
-      EachParty (λ p x y. f p y ≤ f p x) place xs ys → i < length xs → q ≡ place + i →
-      f q (get_or ys i d) < f q (get_or xs i d) → total f place ys < total f place xs
-  total_less f place [] ys i q d h within e less = absurd (omega (arith, within))
-  total_less f place (x ∷ xs) [] i q d h within e less = absurd h
-  total_less f place (x ∷ xs) (y ∷ ys) zero q d h within e less =
-      let t = total_most f (suc place) xs ys h.1 in
-      let s : q ≡ place = omega (arith, e) in
-      let l : f place y < f place x = rw s at less in
+  pub total_less : (f : ℕ → X → ℕ) (party : ℕ) (xs ys : List X) (i q : ℕ) (d : X) →
+      EachParty (λ p x y. f p y ≤ f p x) party xs ys → i < length xs → q ≡ party + i →
+      f q (get_or ys i d) < f q (get_or xs i d) → total f party ys < total f party xs
+  total_less f party [] ys i q d h within e less = absurd (omega (arith, within))
+  total_less f party (x ∷ xs) [] i q d h within e less = absurd h
+  total_less f party (x ∷ xs) (y ∷ ys) zero q d h within e less =
+      let t = total_most f (suc party) xs ys h.1 in
+      let s : q ≡ party = omega (arith, e) in
+      let l : f party y < f party x = rw s at less in
       omega (arith, t, l)
-  total_less f place (x ∷ xs) (y ∷ ys) (suc i) q d h within e less =
-      let t = total_less f (suc place) xs ys i q d h.1 (omega (arith, within)) (omega (arith, e)) less in omega (arith, t, h.0)
+  total_less f party (x ∷ xs) (y ∷ ys) (suc i) q d h within e less =
+      let t = total_less f (suc party) xs ys i q d h.1 (omega (arith, within)) (omega (arith, e)) less in omega (arith, t, h.0)
 
   -- numbers that each party keeps: the first, and the rest
   head_kept : (f : ℕ → X → ℕ) (fs : List (ℕ → X → ℕ)) (xs ys : List X) →
