@@ -17,7 +17,7 @@ use Rattle.pg_parse_expr.specs.declared.level.Level.TheVariants.{Or, And, Concat
 use Rattle.pg_parse_expr.specs.Behind.{has, behind_factor, behind_product, behind_sum, behind_concatenation, behind_comparison, behind_predicate, behind_conjunction, behind_expr}
 use Rattle.pg_parse_expr.specs.Grammar.{chain, product, sum, concatenation, compared, comparison, test, predicate, negation_over, negation, conjunction, disjunction, leaf, minus, bracket, factor_over, factor, expr_at}
 use Rattle.pg_parse_expr.specs.Levels.{step_at, chain_at, behind_at, operand_at, before_at}
-use Rattle.pg_parse_expr.specs.Operators.{literal_of, name_of, or_op, and_op, compare_op, concat_op, sum_op, product_op}
+use Rattle.pg_parse_expr.specs.Operators.{value_of, literal_of, name_of, or_op, and_op, compare_op, concat_op, sum_op, product_op}
 use Rattle.pg_parse_expr.specs.Rest.{behind_factor_at, behind_product_at, behind_sum_at, behind_concatenation_at, behind_comparison_at, behind_predicate_at, behind_conjunction_at, closings, closed}
 use Rattle.pg_parse_expr.specs.Tree.{Tree}
 use Rattle.pg_parse_expr.proofs.After.{any, starts_steps}
@@ -28,7 +28,7 @@ use Rattle.pg_parse_expr.proofs.Testing.{starts_tests}
 use Rattle.pg_parse_expr.proofs.Spelling.{spelled_compared}
 
 no_literal : (xs : List Token) → next xs ≡ Some (t.Sign sign.Open) → Lacks literal_of xs
-unfolding literal_of
+unfolding literal_of value_of
 no_literal xs h = record {
   lacks = λ u x n e.
       let f : Some (t.Sign sign.Open) ≡ Some u = sym h ∙ n in

@@ -15,14 +15,14 @@ use Rattle.pg_lexer.specs.declared.token.Token.{Token}
 use Rattle.pg_lexer.specs.declared.token.Token.TheVariants as t
 use Rattle.pg_parse_expr.specs.Behind.{behind_factor}
 use Rattle.pg_parse_expr.specs.Grammar.{disjunction, leaf, minus, bracket, factor_over, factor}
-use Rattle.pg_parse_expr.specs.Operators.{literal_of, name_of}
+use Rattle.pg_parse_expr.specs.Operators.{value_of, literal_of, name_of}
 use Rattle.pg_parse_expr.specs.Tree.{Tree, unary}
 use Rattle.pg_parse_expr.proofs.Growth.{rises_factor}
 use Rattle.pg_parse_expr.proofs.Leaves.{bars_leaf}
 use Rattle.pg_parse_expr.proofs.Spelling.{spelled_factor}
 
 minus_lacks_literal : (xs ys : List Token) → xs ≡ t.Sign sign.Minus ∷ ys → Lacks literal_of xs
-unfolding literal_of
+unfolding literal_of value_of
 minus_lacks_literal xs ys e = record {
   lacks = λ u x n h.
       let f : Some (t.Sign sign.Minus) ≡ Some u = sym (ap next e) ∙ n in

@@ -19,7 +19,7 @@ use Rattle.pg_lexer.specs.Keywords.{spelling, may_be_name}
 use Rattle.pg_values.specs.declared.value.Value.{Value}
 use Rattle.pg_parse_expr.specs.Behind.{behind_factor}
 use Rattle.pg_parse_expr.specs.Grammar.{named, called, leaf}
-use Rattle.pg_parse_expr.specs.Operators.{literal_of, literal_if, literal_word, number_value, name_of, merge_action, action_name}
+use Rattle.pg_parse_expr.specs.Operators.{value_of, literal_of, literal_if, literal_word, number_value, name_of, merge_action, action_name}
 use Rattle.pg_parse_expr.specs.Tree.{Tree, height, literal, column, column_of, action}
 use Rattle.pg_values.specs.declared.value.Value.TheVariants as value
 use Rattle.pg_parse_expr.proofs.After.{any, starts_any}
@@ -27,7 +27,7 @@ use Rattle.pg_parse_expr.proofs.Spelling.{spelled_leaf}
 
 -- no name is a literal
 pub name_no_literal : (u : Token) (n : List ℕ) → name_of u ≡ Some n → literal_of u ≡ None
-unfolding name_of literal_of may_be_name
+unfolding name_of literal_of value_of may_be_name
 name_no_literal (t.Name _) n h = refl
 name_no_literal (t.Integer _) n h = absurd (cc h)
 name_no_literal (t.Quoted _) n h = absurd (cc h)
@@ -263,7 +263,7 @@ literal_height None v e = absurd (let g : None ≡ Some v = e in cc g)
 literal_height (Some w) v e = let g : literal w ≡ v = cc e in ap height (sym g)
 
 literal_low_token : (u : Token) (v : Tree) → literal_of u ≡ Some v → height v ≡ 1
-unfolding literal_of
+unfolding literal_of value_of
 literal_low_token (t.Integer n) v e = literal_height (number_value n) v e
 literal_low_token (t.Quoted w) v e = let g : literal (value.Text w) ≡ v = cc e in ap height (sym g)
 literal_low_token (t.Keyword k) v e = literal_height (literal_word k) v e

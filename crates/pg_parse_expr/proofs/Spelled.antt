@@ -24,7 +24,7 @@ use Rattle.pg_lexer.specs.Lexemes.{word_token}
 use Rattle.pg_lexer.proofs.Words.{spelled}
 use Rattle.pg_values.specs.declared.value.Value.{Value}
 use Rattle.pg_values.specs.declared.value.Value.TheVariants as value
-use Rattle.pg_parse_expr.specs.Operators.{literal_of, literal_if, number_value, name_of, action_name, merge_action, or_op, and_op, compare_op, concat_op, sum_op, product_op}
+use Rattle.pg_parse_expr.specs.Operators.{value_of, literal_of, literal_if, number_value, name_of, action_name, merge_action, or_op, and_op, compare_op, concat_op, sum_op, product_op}
 use Rattle.pg_parse_expr.specs.Grammar.{Rule, operation, chain, product, sum, concatenation, compared, comparison, tested, test, predicate, negation_over, negation, conjunction, disjunction, named, called, leaf, minus, bracket, factor_over, factor, expr_at, expr}
 use Rattle.pg_parse_expr.specs.Laws.{is_literal, lies, is_free, is_free_name, is_written, is_token}
 use Rattle.pg_parse_expr.specs.Tree.{Tree, height, literal, column, column_of, action, unary, binary}
@@ -97,7 +97,7 @@ bigint_read n h =
     rw other (rw fits refl)
 
 literal_read : (v : Value) → is_literal v ≡ true → literal_of (literal_token v) ≡ Some (literal v)
-unfolding literal_of literal_token
+unfolding literal_of value_of literal_token
 literal_read value.Null h = refl
 literal_read (value.Bool true) h = refl
 literal_read (value.Bool false) h = refl

@@ -13,11 +13,11 @@ use Rattle.pg_parse_expr.specs.declared.level.Level.{Level}
 use Rattle.pg_parse_expr.specs.declared.level.Level.TheVariants.{Or, And, Concat, Sum, Product}
 use Rattle.pg_parse_expr.specs.Grammar.{Rule, operation, chain, product, sum, concatenation, compared, comparison, test, predicate, negation_over, negation, conjunction, disjunction, named, called, leaf, minus, bracket, factor_over, factor}
 use Rattle.pg_parse_expr.specs.Levels.{operand_at}
-use Rattle.pg_parse_expr.specs.Operators.{literal_of, or_op, and_op, compare_op, concat_op, sum_op, product_op}
+use Rattle.pg_parse_expr.specs.Operators.{value_of, literal_of, or_op, and_op, compare_op, concat_op, sum_op, product_op}
 use Rattle.pg_parse_expr.specs.Tree.{Tree, literal, unary}
 
 pub spelled_leaf : (d : ℕ) → Spelled (leaf d)
-unfolding leaf literal_of
+unfolding leaf literal_of value_of
 spelled_leaf d =
     spelled_reaches nodes (suc d) (either (one literal_of) (either called named))
     (spelled_left (one literal_of) (either called named) (spelled_one literal_of (token.Keyword word.Null)

@@ -22,7 +22,7 @@ use Rattle.pg_lexer.specs.declared.token.Token.TheVariants as t
 use Rattle.pg_lexer.specs.Keywords.{may_be_name}
 use Rattle.pg_parse_expr.specs.Behind.{has, is_is, behind_factor, behind_product, behind_sum, behind_concatenation, behind_comparison, behind_predicate}
 use Rattle.pg_parse_expr.specs.Grammar.{Rule, operation, chain, product, sum, concatenation, compared, comparison, tested, test, predicate, negation_over, negation, leaf, minus, bracket, disjunction, factor_over, factor}
-use Rattle.pg_parse_expr.specs.Operators.{literal_of, name_of, compare_op, concat_op, sum_op, product_op}
+use Rattle.pg_parse_expr.specs.Operators.{value_of, literal_of, name_of, compare_op, concat_op, sum_op, product_op}
 use Rattle.pg_parse_expr.specs.Rest.{distinct_operand}
 use Rattle.pg_parse_expr.specs.Tree.{Tree, height, unary, binary}
 use Rattle.pg_parse_expr.proofs.After.{any, starts_any, bars_any, comparison_before}
@@ -282,7 +282,7 @@ bars_chain op operand d xs b =
     (λ x. starts_any (more (operation op operand d) x) any)
 
 not_lacks_literal : (xs ys : List Token) → xs ≡ t.Keyword word.Not ∷ ys → Lacks literal_of xs
-unfolding literal_of
+unfolding literal_of value_of
 not_lacks_literal xs ys e = record {
   lacks = λ u x n h.
       let f : Some (t.Keyword word.Not) ≡ Some u = sym (ap next e) ∙ n in

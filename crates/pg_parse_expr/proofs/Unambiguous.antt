@@ -18,7 +18,7 @@ use Rattle.pg_lexer.specs.declared.token.Token.{Token}
 use Rattle.pg_lexer.specs.declared.token.Token.TheVariants.{Keyword, Sign, Name, Integer, Quoted}
 use Rattle.pg_lexer.specs.Keywords.{may_be_name}
 use Rattle.pg_parse_expr.specs.Behind.{has, behind_factor, behind_product, behind_sum, behind_concatenation, behind_comparison, behind_predicate, behind_conjunction, behind_expr}
-use Rattle.pg_parse_expr.specs.Operators.{literal_of, name_of, action_name, or_op, and_op, compare_op, concat_op, sum_op, product_op}
+use Rattle.pg_parse_expr.specs.Operators.{value_of, literal_of, name_of, action_name, or_op, and_op, compare_op, concat_op, sum_op, product_op}
 use Rattle.pg_parse_expr.specs.Grammar.{Rule, operation, chain, product, sum, concatenation, compared, comparison, tested, test, predicate, negation_over, negation, conjunction, disjunction, named, called, leaf, minus, bracket, factor_over, factor, expr_at, expr}
 use Rattle.pg_parse_expr.specs.Tree.{Tree, column, column_of, binary}
 use Rattle.pg_parse_expr.proofs.Leaves.{name_no_literal}
@@ -108,7 +108,7 @@ abbrev up_to : ℕ → Option Token → Bool
 up_to n o = leb (mark o) n
 
 literal_unmarked : (t : Token) (e : Tree) → literal_of t ≡ Some e → mark (Some t) ≡ 0
-unfolding literal_of mark
+unfolding literal_of value_of mark
 literal_unmarked (Integer n) e h = refl
 literal_unmarked (Quoted text) e h = refl
 literal_unmarked (Name name) e h = absurd (cc h)
@@ -454,7 +454,7 @@ named_agrees =
         (starts_gives no_dot (behind 0) _ undotted) (λ o e. ap not e)
 
 leaf_agrees : (d : ℕ) → Agree (leaf d) (leaf d) (behind 0)
-unfolding leaf is_literal literal_of called
+unfolding leaf is_literal literal_of value_of called
 leaf_agrees d =
     agree_reaches (behind 0) nodes _ _ _ _
     (agree_either (behind 0) (one literal_of) (one literal_of) (either called named) (either called named)

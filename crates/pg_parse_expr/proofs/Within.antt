@@ -20,7 +20,7 @@ use Rattle.pg_lexer.specs.declared.token.Token.TheVariants.{Keyword, Sign, Name,
 use Rattle.pg_lexer.specs.Bytes.{is_name}
 use Rattle.pg_lexer.specs.Keywords.{keyword_of, keywords, may_be_name, spelling}
 use Rattle.pg_values.specs.declared.value.Value.TheVariants as value
-use Rattle.pg_parse_expr.specs.Operators.{literal_of, literal_if, name_of, action_name, or_op, and_op, compare_op, concat_op, sum_op, product_op}
+use Rattle.pg_parse_expr.specs.Operators.{value_of, literal_of, literal_if, name_of, action_name, or_op, and_op, compare_op, concat_op, sum_op, product_op}
 use Rattle.pg_parse_expr.specs.Grammar.{Rule, operation, chain, product, sum, concatenation, compared, comparison, tested, test, predicate, negation_over, negation, conjunction, disjunction, named, called, leaf, minus, bracket, factor_over, factor, expr_at, expr}
 use Rattle.pg_parse_expr.specs.Laws.{is_free, is_free_name, is_written, is_token}
 use Rattle.pg_parse_expr.specs.Tree.{Tree, height, literal, column, column_of, action, unary, binary}
@@ -50,7 +50,7 @@ number_leaf n false true s l e h =
 number_leaf n false false s l e h = absurd (cc h)
 
 literal_leaf : (t : Token) (e : Tree) → is_token t ≡ true → literal_of t ≡ Some e → Leaf e
-unfolding literal_of
+unfolding literal_of value_of
 literal_leaf (Integer n) e a h = number_leaf n (nat_le n 2147483647) (nat_le n 9223372036854775807) refl refl e h
 literal_leaf (Quoted text) e a h = let is : literal (value.Text text) ≡ e = cc h in subst Leaf is (refl, a)
 literal_leaf (Keyword word.True) e a h = let is : literal (value.Bool true) ≡ e = cc h in subst Leaf is (refl, refl)

@@ -21,22 +21,27 @@ number_value n =
     if nat_le n 2147483647 then Some (value.Int (pos n))
     else (if nat_le n 9223372036854775807 then Some (value.Big (pos n)) else None)
 
-abbrev pub literal_if : Option Value → Option Tree
-literal_if None = None
-literal_if (Some v) = Some (literal v)
-
 abbrev pub literal_word : Keyword → Option Value
 literal_word word.True = Some (value.Bool true)
 literal_word word.False = Some (value.Bool false)
 literal_word word.Null = Some value.Null
 literal_word _ = None
 
--- a number, a text, TRUE, FALSE or NULL
+-- a literal is a number, a text, TRUE, FALSE or NULL
+unfoldable pub value_of : Token → Option Value
+value_of (token.Integer n) = number_value n
+value_of (token.Quoted text) = Some (value.Text text)
+value_of (token.Keyword k) = literal_word k
+value_of _ = None
+
+-- a value as an expression
+abbrev pub literal_if : Option Value → Option Tree
+literal_if None = None
+literal_if (Some v) = Some (literal v)
+
+-- a literal as an expression
 unfoldable pub literal_of : Token → Option Tree
-literal_of (token.Integer n) = literal_if (number_value n)
-literal_of (token.Quoted text) = Some (literal (value.Text text))
-literal_of (token.Keyword k) = literal_if (literal_word k)
-literal_of _ = None
+literal_of t = literal_if (value_of t)
 
 -- a name, or a reserved word that may be one
 unfoldable pub name_of : Token → Option (List ℕ)

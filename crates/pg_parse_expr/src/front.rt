@@ -3,7 +3,7 @@ ghost use Rattle.std.specs.Prelude.{◌≡◌, ◌∷◌, MatchOption, IfOk, IsT
 ghost use Rattle.pg_grammar.specs.Answers.{Lacks, Misses};
 ghost use Rattle.pg_grammar.specs.Languages.{Took};
 ghost use Rattle.pg_lexer.specs.declared.token.Token.TheVariants.{Keyword as word_token, Sign as sign_token};
-ghost use Rattle.pg_parse_expr.specs.Operators.{literal_of, name_of, number_value, compare_op};
+ghost use Rattle.pg_parse_expr.specs.Operators.{value_of, literal_of, name_of, number_value, compare_op};
 ghost use Rattle.pg_parse_expr.specs.Levels.{op_at};
 
 use crate::level::{Level, comparison_op};
@@ -33,7 +33,7 @@ fn is_sign(token: &Token, sign: Sign) -> bool
 }
 
 /// The tokens behind a reserved word, if it stands first.
-pub(crate) fn accept_word(tokens: &[Token], word: Keyword) -> Option<&[Token]>
+pub fn accept_word(tokens: &[Token], word: Keyword) -> Option<&[Token]>
     ensures { MatchOption result (Misses (word_token word) tokens.now) (λ rest. tokens.now ≡ word_token word ∷ rest.now) }
 {
     let (first, rest) = tokens.split_first()?;
@@ -45,7 +45,7 @@ pub(crate) fn accept_word(tokens: &[Token], word: Keyword) -> Option<&[Token]>
 }
 
 /// The tokens behind a sign, if it stands first.
-pub(crate) fn accept_sign(tokens: &[Token], sign: Sign) -> Option<&[Token]>
+pub fn accept_sign(tokens: &[Token], sign: Sign) -> Option<&[Token]>
     ensures { MatchOption result (Misses (sign_token sign) tokens.now) (λ rest. tokens.now ≡ sign_token sign ∷ rest.now) }
 {
     let (first, rest) = tokens.split_first()?;
@@ -87,23 +87,31 @@ fn number_value(number: u64) -> Option<Value>
     }
 }
 
+/// The value of a token that is a literal: a number, a text, TRUE, FALSE or NULL. Refuses for
+/// want of memory alone.
+#[tactic(auto, unfolding(crate::specs::Operators::value_of))]
+pub fn value_of(alloc: Global, token: &Token) -> Result<Option<Value>, AllocError>
+    ensures { IfOk result (λ value. value ≡ value_of token.now) }
+{
+    match token {
+        Token::Integer(number) => Ok(number_value(*number)),
+        Token::Quoted(text) => Ok(Some(Value::Text(text_of(alloc, text)?))),
+        Token::Keyword(Keyword::True) => Ok(Some(Value::Bool(true))),
+        Token::Keyword(Keyword::False) => Ok(Some(Value::Bool(false))),
+        Token::Keyword(Keyword::Null) => Ok(Some(Value::Null)),
+        _ => Ok(None),
+    }
+}
+
 /// The literal that a token is, if it is one.
 #[tactic(auto, unfolding(crate::specs::Operators::literal_of))]
 fn literal_of(alloc: Global, token: &Token) -> Result<Option<ExprTree>, AllocError>
     ensures { IfOk result (λ tree. tree ≡ literal_of token.now) }
 {
-    let value = match token {
-        Token::Integer(number) => match number_value(*number) {
-            Some(value) => value,
-            None => return Ok(None),
-        },
-        Token::Quoted(text) => Value::Text(text_of(alloc, text)?),
-        Token::Keyword(Keyword::True) => Value::Bool(true),
-        Token::Keyword(Keyword::False) => Value::Bool(false),
-        Token::Keyword(Keyword::Null) => Value::Null,
-        _ => return Ok(None),
-    };
-    Ok(Some(ExprTree::literal(value)))
+    match value_of(alloc, token)? {
+        Some(value) => Ok(Some(ExprTree::literal(value))),
+        None => Ok(None),
+    }
 }
 
 fn text_of(alloc: Global, text: &QuotedText) -> Result<Text, AllocError>
@@ -112,9 +120,10 @@ fn text_of(alloc: Global, text: &QuotedText) -> Result<Text, AllocError>
     Text::from_slice(alloc, text.as_bytes())
 }
 
-/// The name that a token is, if it may be one.
+/// The name that a token is, if it may be one; some reserved words may. Refuses for want of memory
+/// alone.
 #[tactic(auto, unfolding(crate::specs::Operators::name_of))]
-fn name_of(alloc: Global, token: &Token) -> Result<Option<NameText>, AllocError>
+pub fn name_of(alloc: Global, token: &Token) -> Result<Option<NameText>, AllocError>
     ensures { IfOk result (λ name. name ≡ name_of token.now) }
 {
     match token {

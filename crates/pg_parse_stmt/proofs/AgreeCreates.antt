@@ -14,11 +14,11 @@ use Rattle.pg_lexer.specs.declared.token.Token.TheVariants as t
 use Rattle.pg_lexer.specs.Keywords.{spelling, may_be_name}
 use Rattle.pg_parse_expr.specs.Behind.{has}
 use Rattle.pg_parse_expr.specs.Grammar.{expr}
-use Rattle.pg_parse_expr.specs.Operators.{name_of}
+use Rattle.pg_parse_expr.specs.Operators.{name_of, value_of}
 use Rattle.pg_parse_stmt.specs.Behind.{any, is_word, behind_constraint_name, behind_part}
 use Rattle.pg_parse_stmt.specs.Forms.{word, sign, optional, list_of, in_brackets}
 use Rattle.pg_parse_stmt.specs.Grammar.{name, names, condition, elements, select, insert, update, delete, merge, default, column_constraint_behind, column_constraint_named, column_rule_behind, next_rule, column_part, table_constraint_behind, constraint_part, part, create_table, create_index, transaction, committed, isolation, begin, statement_behind, statement, sentence}
-use Rattle.pg_parse_stmt.specs.Words.{kind_of, value_of, negative_of, constraint_of, rule_of, lead_of}
+use Rattle.pg_parse_stmt.specs.Words.{kind_of, negative_of, constraint_of, rule_of, lead_of}
 use Rattle.pg_parse_stmt.specs.declared.tree.ColumnRule.{ColumnRule}
 use Rattle.pg_parse_stmt.specs.declared.tree.ColumnRule.TheVariants as column_rule
 use Rattle.pg_parse_stmt.specs.declared.tree.StmtTree.{StmtTree}

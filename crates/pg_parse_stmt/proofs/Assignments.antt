@@ -19,75 +19,91 @@ use Rattle.pg_parse_stmt.proofs.Steps.{word_read, word_missed, part_read}
 use Rattle.pg_parse_stmt.specs.Grammar.{name, assignment}
 use Rattle.pg_parse_stmt.specs.declared.tree.Assignment.{Assignment}
 
-assignment_made : (v1 : List ℕ) → (v3 : Tree) → Assignment
-assignment_made v1 v3 = record { column = v1; value = v3 }
+assignment_made : (column : List ℕ) → (value : Tree) → Assignment
+assignment_made column value = record { column = column; value = value }
 
-assignment_3 : (v1 : List ℕ) → (v3 : Tree) → Lang Token Assignment
-assignment_3 v1 v3 = gives (assignment_made v1 v3)
+assignment_after_value : (column : List ℕ) → (value : Tree) → Lang Token Assignment
+assignment_after_value column value = gives (assignment_made column value)
 
-spelled_assignment_3 : (v1 : List ℕ) → (v3 : Tree) → Spelled (assignment_3 v1 v3)
-unfolding assignment_3
-spelled_assignment_3 v1 v3 = spelled_gives (assignment_made v1 v3)
+spelled_assignment_after_value : (column : List ℕ) → (value : Tree) → Spelled (assignment_after_value column value)
+unfolding assignment_after_value
+spelled_assignment_after_value column value = spelled_gives (assignment_made column value)
 
-assignment_2 : (v1 : List ℕ) → Lang Token Assignment
-assignment_2 v1 = bind expr (assignment_3 v1)
+assignment_after_equal : (column : List ℕ) → Lang Token Assignment
+assignment_after_equal column = bind expr (assignment_after_value column)
 
-spelled_assignment_2 : (v1 : List ℕ) → Spelled (assignment_2 v1)
-unfolding assignment_2
-spelled_assignment_2 v1 = spelled_bind expr (assignment_3 v1) spelled_expr (λ u. spelled_assignment_3 v1 u)
+spelled_assignment_after_equal : (column : List ℕ) → Spelled (assignment_after_equal column)
+unfolding assignment_after_equal
+spelled_assignment_after_equal column =
+    spelled_bind expr (assignment_after_value column) spelled_expr
+    (λ value. spelled_assignment_after_value column value)
 
-assignment_1 : (v1 : List ℕ) → Lang Token Assignment
-assignment_1 v1 = token (t.Sign s.Equal) (assignment_2 v1)
+assignment_after_column : (column : List ℕ) → Lang Token Assignment
+assignment_after_column column = token (t.Sign s.Equal) (assignment_after_equal column)
 
-spelled_assignment_1 : (v1 : List ℕ) → Spelled (assignment_1 v1)
-unfolding assignment_1
-spelled_assignment_1 v1 = spelled_token (t.Sign s.Equal) (assignment_2 v1) (spelled_assignment_2 v1)
+spelled_assignment_after_column : (column : List ℕ) → Spelled (assignment_after_column column)
+unfolding assignment_after_column
+spelled_assignment_after_column column =
+    spelled_token (t.Sign s.Equal) (assignment_after_equal column) (spelled_assignment_after_equal column)
 
-spelled_whole : Spelled (assignment)
-unfolding assignment assignment_1 assignment_2 assignment_3 assignment_made
-spelled_whole = spelled_bind name (assignment_1) spelled_name (λ u. spelled_assignment_1 u)
+spelled_whole : Spelled assignment
+unfolding assignment assignment_after_column assignment_after_equal assignment_after_value assignment_made
+spelled_whole =
+    spelled_bind name assignment_after_column spelled_name (λ column. spelled_assignment_after_column column)
 
-starts_assignment_1 : (v1 : List ℕ) → Starts any (assignment_1 v1) behind_expr
-unfolding assignment_1 assignment_2 assignment_3 assignment_made
-starts_assignment_1 v1 = starts_any (assignment_1 v1) behind_expr
+starts_assignment_after_column : (column : List ℕ) → Starts any (assignment_after_column column) behind_expr
+unfolding assignment_after_column assignment_after_equal assignment_after_value assignment_made
+starts_assignment_after_column column = starts_any (assignment_after_column column) behind_expr
 
-starts_assignment_3 : (v1 : List ℕ) → (v3 : Tree) → Starts behind_expr (assignment_3 v1 v3) behind_expr
-unfolding assignment_1 assignment_2 assignment_3 assignment_made
-starts_assignment_3 v1 v3 = starts_gives behind_expr behind_expr (assignment_made v1 v3) (λ o e. e)
+starts_assignment_after_value : (column : List ℕ) → (value : Tree) →
+    Starts behind_expr (assignment_after_value column value) behind_expr
+unfolding assignment_after_column assignment_after_equal assignment_after_value assignment_made
+starts_assignment_after_value column value =
+    starts_gives behind_expr behind_expr (assignment_made column value) (λ o e. e)
 
-pub assignment_at_0 : (xs : List Token) (f : Fault) → Reads name any xs (failed f) →
-    Reads (assignment) behind_expr xs (failed f)
-unfolding assignment assignment_1 assignment_2 assignment_3 assignment_made
-assignment_at_0 xs f e1 =
-    reads_bind_failed name (assignment_1) any behind_expr xs f e1 (λ v1. starts_assignment_1 v1)
-    (λ v1. spelled_assignment_1 v1)
+pub assignment_column_failed : (xs : List Token) (f : Fault) → Reads name any xs (failed f) →
+    Reads assignment behind_expr xs (failed f)
+unfolding assignment assignment_after_column assignment_after_equal assignment_after_value assignment_made
+assignment_column_failed xs f fails =
+    reads_bind_failed name assignment_after_column any behind_expr xs f fails
+    (λ column. starts_assignment_after_column column) (λ column. spelled_assignment_after_column column)
 
-pub assignment_at_1 : (xs y1 : List Token) (v1 : List ℕ) (l : ℕ) → Reads name any xs (read v1 y1) →
-    Misses (t.Sign s.Equal) y1 → l ≡ length y1 →
-    Reads (assignment) behind_expr xs (failed (Syntax l))
-unfolding assignment assignment_1 assignment_2 assignment_3 assignment_made
-assignment_at_1 xs y1 v1 l e1 e2 q =
-    part_read name (assignment_1) any behind_expr xs y1 v1 (failed (Syntax l)) e1 (λ v1. starts_assignment_1 v1)
-    (word_missed (t.Sign s.Equal) (assignment_2 v1) behind_expr y1 l e2 q (spelled_assignment_2 v1))
+pub assignment_no_equal : (xs after_column : List Token) (column : List ℕ) (l : ℕ) →
+    Reads name any xs (read column after_column) →
+    Misses (t.Sign s.Equal) after_column →
+    l ≡ length after_column →
+    Reads assignment behind_expr xs (failed (Syntax l))
+unfolding assignment assignment_after_column assignment_after_equal assignment_after_value assignment_made
+assignment_no_equal xs after_column column l reads_column miss q =
+    part_read name assignment_after_column any behind_expr xs after_column column (failed (Syntax l)) reads_column
+    (λ column. starts_assignment_after_column column)
+    (word_missed (t.Sign s.Equal) (assignment_after_equal column) behind_expr after_column l miss q
+    (spelled_assignment_after_equal column))
 
-pub assignment_at_2 : (xs y1 y2 : List Token) (v1 : List ℕ) (f : Fault) → Reads name any xs (read v1 y1) →
-    y1 ≡ (t.Sign s.Equal) ∷ y2 → Reads expr behind_expr y2 (failed f) →
-    Reads (assignment) behind_expr xs (failed f)
-unfolding assignment assignment_1 assignment_2 assignment_3 assignment_made
-assignment_at_2 xs y1 y2 v1 f e1 e2 e3 =
-    part_read name (assignment_1) any behind_expr xs y1 v1 (failed f) e1 (λ v1. starts_assignment_1 v1)
-    (word_read (t.Sign s.Equal) (assignment_2 v1) behind_expr y1 y2 (failed f) e2
-    (reads_bind_failed expr (assignment_3 v1) behind_expr behind_expr y2 f e3 (λ v3. starts_assignment_3 v1 v3)
-    (λ v3. spelled_assignment_3 v1 v3)))
+pub assignment_value_failed : (xs after_column after_equal : List Token) (column : List ℕ) (f : Fault) →
+    Reads name any xs (read column after_column) →
+    after_column ≡ (t.Sign s.Equal) ∷ after_equal →
+    Reads expr behind_expr after_equal (failed f) →
+    Reads assignment behind_expr xs (failed f)
+unfolding assignment assignment_after_column assignment_after_equal assignment_after_value assignment_made
+assignment_value_failed xs after_column after_equal column f reads_column at_equal fails =
+    part_read name assignment_after_column any behind_expr xs after_column column (failed f) reads_column
+    (λ column. starts_assignment_after_column column)
+    (word_read (t.Sign s.Equal) (assignment_after_equal column) behind_expr after_column after_equal (failed f) at_equal
+    (reads_bind_failed expr (assignment_after_value column) behind_expr behind_expr after_equal f fails
+    (λ value. starts_assignment_after_value column value) (λ value. spelled_assignment_after_value column value)))
 
-pub assignment_at_3 : (xs y1 y2 y3 : List Token) (v1 : List ℕ) (v3 : Tree) → Reads name any xs (read v1 y1) →
-    y1 ≡ (t.Sign s.Equal) ∷ y2 → Reads expr behind_expr y2 (read v3 y3) →
-    Reads (assignment) behind_expr xs (read (record { column = v1; value = v3 }) y3)
-unfolding assignment assignment_1 assignment_2 assignment_3 assignment_made
-assignment_at_3 xs y1 y2 y3 v1 v3 e1 e2 e3 =
-    part_read name (assignment_1) any behind_expr xs y1 v1 (read (record { column = v1; value = v3 }) y3) e1
-    (λ v1. starts_assignment_1 v1)
-    (word_read (t.Sign s.Equal) (assignment_2 v1) behind_expr y1 y2 (read (record { column = v1; value = v3 }) y3) e2
-    (part_read expr (assignment_3 v1) behind_expr behind_expr y2 y3 v3 (read (record { column = v1; value = v3 }) y3) e3
-    (λ v3. starts_assignment_3 v1 v3)
-    (reads_gives (assignment_made v1 v3) (assignment_made v1 v3) behind_expr y3 refl)))
+pub assignment_whole : (xs after_column after_equal rest : List Token) (column : List ℕ) (value : Tree) →
+    Reads name any xs (read column after_column) →
+    after_column ≡ (t.Sign s.Equal) ∷ after_equal →
+    Reads expr behind_expr after_equal (read value rest) →
+    Reads assignment behind_expr xs (read (record { column = column; value = value }) rest)
+unfolding assignment assignment_after_column assignment_after_equal assignment_after_value assignment_made
+assignment_whole xs after_column after_equal rest column value reads_column at_equal reads_value =
+    part_read name assignment_after_column any behind_expr xs after_column column
+    (read (assignment_made column value) rest) reads_column (λ column. starts_assignment_after_column column)
+    (word_read (t.Sign s.Equal) (assignment_after_equal column) behind_expr after_column after_equal
+    (read (assignment_made column value) rest) at_equal
+    (part_read expr (assignment_after_value column) behind_expr behind_expr after_equal rest value
+    (read (assignment_made column value) rest) reads_value (λ value. starts_assignment_after_value column value)
+    (reads_gives (assignment_made column value) (assignment_made column value) behind_expr rest refl)))

@@ -24,267 +24,343 @@ use Rattle.pg_parse_stmt.specs.declared.tree.StmtTree.TheVariants as stmt
 use Rattle.pg_parse_stmt.proofs.Conditions.{spelled_where}
 use Rattle.pg_parse_stmt.proofs.Following.{end_behind_condition}
 
-create_table_made : (v2 : List ℕ) → (v3 : List TablePart) → StmtTree
-create_table_made v2 v3 = stmt.CreateTable (record { name = v2; parts = v3 })
+-- TABLE name "(" part {"," part} ")", behind CREATE
+create_table_made : (named : List ℕ) → (parts : List TablePart) → StmtTree
+create_table_made named parts = stmt.CreateTable (record { name = named; parts = parts })
 
-create_table_3 : (v2 : List ℕ) → (v3 : List TablePart) → Lang Token StmtTree
-create_table_3 v2 v3 = gives (create_table_made v2 v3)
+create_table_after_parts : (named : List ℕ) → (parts : List TablePart) → Lang Token StmtTree
+create_table_after_parts named parts = gives (create_table_made named parts)
 
-spelled_create_table_3 : (v2 : List ℕ) → (v3 : List TablePart) → Spelled (create_table_3 v2 v3)
-unfolding create_table_3
-spelled_create_table_3 v2 v3 = spelled_gives (create_table_made v2 v3)
+spelled_create_table_after_parts : (named : List ℕ) → (parts : List TablePart) →
+    Spelled (create_table_after_parts named parts)
+unfolding create_table_after_parts
+spelled_create_table_after_parts named parts = spelled_gives (create_table_made named parts)
 
-create_table_2 : (v2 : List ℕ) → Lang Token StmtTree
-create_table_2 v2 = bind (in_brackets (list_of part)) (create_table_3 v2)
+create_table_after_name : (named : List ℕ) → Lang Token StmtTree
+create_table_after_name named = bind (in_brackets (list_of part)) (create_table_after_parts named)
 
-spelled_create_table_2 : (v2 : List ℕ) → Spelled (create_table_2 v2)
-unfolding create_table_2
-spelled_create_table_2 v2 =
-    spelled_bind (in_brackets (list_of part)) (create_table_3 v2)
-    (spelled_in_brackets (list_of part) (spelled_list part spelled_part)) (λ u. spelled_create_table_3 v2 u)
+spelled_create_table_after_name : (named : List ℕ) → Spelled (create_table_after_name named)
+unfolding create_table_after_name
+spelled_create_table_after_name named =
+    spelled_bind (in_brackets (list_of part)) (create_table_after_parts named)
+    (spelled_in_brackets (list_of part) (spelled_list part spelled_part))
+    (λ parts. spelled_create_table_after_parts named parts)
 
-create_table_1 : Lang Token StmtTree
-create_table_1 = bind name (create_table_2)
+create_table_after_word : Lang Token StmtTree
+create_table_after_word = bind name create_table_after_name
 
-spelled_create_table_1 : Spelled (create_table_1)
-unfolding create_table_1
-spelled_create_table_1 = spelled_bind name (create_table_2) spelled_name (λ u. spelled_create_table_2 u)
+spelled_create_table_after_word : Spelled create_table_after_word
+unfolding create_table_after_word
+spelled_create_table_after_word =
+    spelled_bind name create_table_after_name spelled_name (λ named. spelled_create_table_after_name named)
 
-pub spelled_create_table : Spelled (create_table)
-unfolding create_table create_table_1 create_table_2 create_table_3 create_table_made
-spelled_create_table = spelled_token (t.Keyword k.Table) (create_table_1) (spelled_create_table_1)
+pub spelled_create_table : Spelled create_table
+unfolding create_table create_table_after_word create_table_after_name create_table_after_parts create_table_made
+spelled_create_table = spelled_token (t.Keyword k.Table) create_table_after_word spelled_create_table_after_word
 
-starts_create_table_2 : (v2 : List ℕ) → Starts any (create_table_2 v2) behind_statement
-unfolding create_table_1 create_table_2 create_table_3 create_table_made
-starts_create_table_2 v2 = starts_any (create_table_2 v2) behind_statement
+starts_create_table_after_name : (named : List ℕ) → Starts any (create_table_after_name named) behind_statement
+unfolding create_table_after_word create_table_after_name create_table_after_parts create_table_made
+starts_create_table_after_name named = starts_any (create_table_after_name named) behind_statement
 
-starts_create_table_3 : (v2 : List ℕ) → (v3 : List TablePart) → Starts any (create_table_3 v2 v3) behind_statement
-unfolding create_table_1 create_table_2 create_table_3 create_table_made
-starts_create_table_3 v2 v3 = starts_any (create_table_3 v2 v3) behind_statement
+starts_create_table_after_parts : (named : List ℕ) → (parts : List TablePart) →
+    Starts any (create_table_after_parts named parts) behind_statement
+unfolding create_table_after_word create_table_after_name create_table_after_parts create_table_made
+starts_create_table_after_parts named parts = starts_any (create_table_after_parts named parts) behind_statement
 
-pub create_table_at_0 : (xs : List Token) (l : ℕ) → Misses (t.Keyword k.Table) xs → l ≡ length xs →
-    Reads (create_table) behind_statement xs (failed (Syntax l))
-unfolding create_table create_table_1 create_table_2 create_table_3 create_table_made
-create_table_at_0 xs l e1 q =
-    word_missed (t.Keyword k.Table) (create_table_1) behind_statement xs l e1 q (spelled_create_table_1)
+pub create_table_no_word : (xs : List Token) (l : ℕ) → Misses (t.Keyword k.Table) xs → l ≡ length xs →
+    Reads create_table behind_statement xs (failed (Syntax l))
+unfolding create_table create_table_after_word create_table_after_name create_table_after_parts create_table_made
+create_table_no_word xs l miss q =
+    word_missed (t.Keyword k.Table) create_table_after_word behind_statement xs l miss q spelled_create_table_after_word
 
-pub create_table_at_1 : (xs y1 : List Token) (f : Fault) → xs ≡ (t.Keyword k.Table) ∷ y1 →
-    Reads name any y1 (failed f) →
-    Reads (create_table) behind_statement xs (failed f)
-unfolding create_table create_table_1 create_table_2 create_table_3 create_table_made
-create_table_at_1 xs y1 f e1 e2 = word_read (t.Keyword k.Table) (create_table_1) behind_statement xs y1 (failed f) e1
-    (reads_bind_failed name (create_table_2) any behind_statement y1 f e2 (λ v2. starts_create_table_2 v2)
-    (λ v2. spelled_create_table_2 v2))
+pub create_table_name_failed : (xs after_word : List Token) (f : Fault) → xs ≡ (t.Keyword k.Table) ∷ after_word →
+    Reads name any after_word (failed f) →
+    Reads create_table behind_statement xs (failed f)
+unfolding create_table create_table_after_word create_table_after_name create_table_after_parts create_table_made
+create_table_name_failed xs after_word f at_word fails =
+    word_read (t.Keyword k.Table) create_table_after_word behind_statement xs after_word (failed f) at_word
+    (reads_bind_failed name create_table_after_name any behind_statement after_word f fails
+    (λ named. starts_create_table_after_name named) (λ named. spelled_create_table_after_name named))
 
-pub create_table_at_2 : (xs y1 y2 : List Token) (v2 : List ℕ) (f : Fault) → xs ≡ (t.Keyword k.Table) ∷ y1 →
-    Reads name any y1 (read v2 y2) → Reads (in_brackets (list_of part)) any y2 (failed f) →
-    Reads (create_table) behind_statement xs (failed f)
-unfolding create_table create_table_1 create_table_2 create_table_3 create_table_made
-create_table_at_2 xs y1 y2 v2 f e1 e2 e3 =
-    word_read (t.Keyword k.Table) (create_table_1) behind_statement xs y1 (failed f) e1
-    (part_read name (create_table_2) any behind_statement y1 y2 v2 (failed f) e2 (λ v2. starts_create_table_2 v2)
-    (reads_bind_failed (in_brackets (list_of part)) (create_table_3 v2) any behind_statement y2 f e3
-    (λ v3. starts_create_table_3 v2 v3) (λ v3. spelled_create_table_3 v2 v3)))
+pub create_table_parts_failed : (xs after_word after_name : List Token) (named : List ℕ) (f : Fault) →
+    xs ≡ (t.Keyword k.Table) ∷ after_word →
+    Reads name any after_word (read named after_name) →
+    Reads (in_brackets (list_of part)) any after_name (failed f) →
+    Reads create_table behind_statement xs (failed f)
+unfolding create_table create_table_after_word create_table_after_name create_table_after_parts create_table_made
+create_table_parts_failed xs after_word after_name named f at_word reads_name fails =
+    word_read (t.Keyword k.Table) create_table_after_word behind_statement xs after_word (failed f) at_word
+    (part_read name create_table_after_name any behind_statement after_word after_name named (failed f) reads_name
+    (λ named. starts_create_table_after_name named)
+    (reads_bind_failed (in_brackets (list_of part)) (create_table_after_parts named) any behind_statement after_name f
+    fails (λ parts. starts_create_table_after_parts named parts)
+    (λ parts. spelled_create_table_after_parts named parts)))
 
-pub create_table_at_3 : (xs y1 y2 y3 : List Token) (v2 : List ℕ) (v3 : List TablePart) → xs ≡ (t.Keyword k.Table) ∷ y1 →
-    Reads name any y1 (read v2 y2) → Reads (in_brackets (list_of part)) any y2 (read v3 y3) →
-    Reads (create_table) behind_statement xs (read (stmt.CreateTable (record { name = v2; parts = v3 })) y3)
-unfolding create_table create_table_1 create_table_2 create_table_3 create_table_made
-create_table_at_3 xs y1 y2 y3 v2 v3 e1 e2 e3 =
-    word_read (t.Keyword k.Table) (create_table_1) behind_statement xs y1
-    (read (stmt.CreateTable (record { name = v2; parts = v3 })) y3) e1
-    (part_read name (create_table_2) any behind_statement y1 y2 v2
-    (read (stmt.CreateTable (record { name = v2; parts = v3 })) y3) e2 (λ v2. starts_create_table_2 v2)
-    (part_read (in_brackets (list_of part)) (create_table_3 v2) any behind_statement y2 y3 v3
-    (read (stmt.CreateTable (record { name = v2; parts = v3 })) y3) e3 (λ v3. starts_create_table_3 v2 v3)
-    (reads_gives (create_table_made v2 v3) (create_table_made v2 v3) behind_statement y3 refl)))
+pub create_table_whole : (xs after_word after_name rest : List Token) (named : List ℕ) (parts : List TablePart) →
+    xs ≡ (t.Keyword k.Table) ∷ after_word →
+    Reads name any after_word (read named after_name) →
+    Reads (in_brackets (list_of part)) any after_name (read parts rest) →
+    Reads create_table behind_statement xs (read (stmt.CreateTable (record { name = named; parts = parts })) rest)
+unfolding create_table create_table_after_word create_table_after_name create_table_after_parts create_table_made
+create_table_whole xs after_word after_name rest named parts at_word reads_name reads_parts =
+    word_read (t.Keyword k.Table) create_table_after_word behind_statement xs after_word
+    (read (create_table_made named parts) rest) at_word
+    (part_read name create_table_after_name any behind_statement after_word after_name named
+    (read (create_table_made named parts) rest) reads_name (λ named. starts_create_table_after_name named)
+    (part_read (in_brackets (list_of part)) (create_table_after_parts named) any behind_statement after_name rest parts
+    (read (create_table_made named parts) rest) reads_parts (λ parts. starts_create_table_after_parts named parts)
+    (reads_gives (create_table_made named parts) (create_table_made named parts) behind_statement rest refl)))
 
-create_index_made : (v3 : List ℕ) → (v5 : List ℕ) → (v6 : List Element) → (v7 : Option Tree) → StmtTree
-create_index_made v3 v5 v6 v7 = stmt.CreateIndex (record { name = v3; table = v5; elements = v6; predicate = v7 })
+-- UNIQUE INDEX name ON name "(" element {"," element} ")" [WHERE expr], behind CREATE
+create_index_made : (named : List ℕ) → (table : List ℕ) → (listed : List Element) → (predicate : Option Tree) → StmtTree
+create_index_made named table listed predicate =
+    stmt.CreateIndex (record { name = named; table = table; elements = listed; predicate = predicate })
 
-create_index_7 : (v3 : List ℕ) → (v5 : List ℕ) → (v6 : List Element) → (v7 : Option Tree) → Lang Token StmtTree
-create_index_7 v3 v5 v6 v7 = gives (create_index_made v3 v5 v6 v7)
+index_after_condition : (named : List ℕ) → (table : List ℕ) → (listed : List Element) → (predicate : Option Tree) →
+    Lang Token StmtTree
+index_after_condition named table listed predicate = gives (create_index_made named table listed predicate)
 
-spelled_create_index_7 : (v3 : List ℕ) → (v5 : List ℕ) → (v6 : List Element) → (v7 : Option Tree) →
-    Spelled (create_index_7 v3 v5 v6 v7)
-unfolding create_index_7
-spelled_create_index_7 v3 v5 v6 v7 = spelled_gives (create_index_made v3 v5 v6 v7)
+spelled_index_after_condition : (named : List ℕ) → (table : List ℕ) → (listed : List Element) →
+    (predicate : Option Tree) → Spelled (index_after_condition named table listed predicate)
+unfolding index_after_condition
+spelled_index_after_condition named table listed predicate =
+    spelled_gives (create_index_made named table listed predicate)
 
-create_index_6 : (v3 : List ℕ) → (v5 : List ℕ) → (v6 : List Element) → Lang Token StmtTree
-create_index_6 v3 v5 v6 = bind condition (create_index_7 v3 v5 v6)
+index_after_elements : (named : List ℕ) → (table : List ℕ) → (listed : List Element) → Lang Token StmtTree
+index_after_elements named table listed = bind condition (index_after_condition named table listed)
 
-spelled_create_index_6 : (v3 : List ℕ) → (v5 : List ℕ) → (v6 : List Element) → Spelled (create_index_6 v3 v5 v6)
-unfolding create_index_6
-spelled_create_index_6 v3 v5 v6 =
-    spelled_bind condition (create_index_7 v3 v5 v6) spelled_where (λ u. spelled_create_index_7 v3 v5 v6 u)
+spelled_index_after_elements : (named : List ℕ) → (table : List ℕ) → (listed : List Element) →
+    Spelled (index_after_elements named table listed)
+unfolding index_after_elements
+spelled_index_after_elements named table listed =
+    spelled_bind condition (index_after_condition named table listed) spelled_where
+    (λ predicate. spelled_index_after_condition named table listed predicate)
 
-create_index_5 : (v3 : List ℕ) → (v5 : List ℕ) → Lang Token StmtTree
-create_index_5 v3 v5 = bind elements (create_index_6 v3 v5)
+index_after_table : (named : List ℕ) → (table : List ℕ) → Lang Token StmtTree
+index_after_table named table = bind elements (index_after_elements named table)
 
-spelled_create_index_5 : (v3 : List ℕ) → (v5 : List ℕ) → Spelled (create_index_5 v3 v5)
-unfolding create_index_5
-spelled_create_index_5 v3 v5 =
-    spelled_bind elements (create_index_6 v3 v5) spelled_elements (λ u. spelled_create_index_6 v3 v5 u)
+spelled_index_after_table : (named : List ℕ) → (table : List ℕ) → Spelled (index_after_table named table)
+unfolding index_after_table
+spelled_index_after_table named table =
+    spelled_bind elements (index_after_elements named table) spelled_elements
+    (λ listed. spelled_index_after_elements named table listed)
 
-create_index_4 : (v3 : List ℕ) → Lang Token StmtTree
-create_index_4 v3 = bind name (create_index_5 v3)
+index_after_on : (named : List ℕ) → Lang Token StmtTree
+index_after_on named = bind name (index_after_table named)
 
-spelled_create_index_4 : (v3 : List ℕ) → Spelled (create_index_4 v3)
-unfolding create_index_4
-spelled_create_index_4 v3 = spelled_bind name (create_index_5 v3) spelled_name (λ u. spelled_create_index_5 v3 u)
+spelled_index_after_on : (named : List ℕ) → Spelled (index_after_on named)
+unfolding index_after_on
+spelled_index_after_on named =
+    spelled_bind name (index_after_table named) spelled_name (λ table. spelled_index_after_table named table)
 
-create_index_3 : (v3 : List ℕ) → Lang Token StmtTree
-create_index_3 v3 = token (t.Keyword k.On) (create_index_4 v3)
+index_after_name : (named : List ℕ) → Lang Token StmtTree
+index_after_name named = token (t.Keyword k.On) (index_after_on named)
 
-spelled_create_index_3 : (v3 : List ℕ) → Spelled (create_index_3 v3)
-unfolding create_index_3
-spelled_create_index_3 v3 = spelled_token (t.Keyword k.On) (create_index_4 v3) (spelled_create_index_4 v3)
+spelled_index_after_name : (named : List ℕ) → Spelled (index_after_name named)
+unfolding index_after_name
+spelled_index_after_name named = spelled_token (t.Keyword k.On) (index_after_on named) (spelled_index_after_on named)
 
-create_index_2 : Lang Token StmtTree
-create_index_2 = bind name (create_index_3)
+index_after_index : Lang Token StmtTree
+index_after_index = bind name index_after_name
 
-spelled_create_index_2 : Spelled (create_index_2)
-unfolding create_index_2
-spelled_create_index_2 = spelled_bind name (create_index_3) spelled_name (λ u. spelled_create_index_3 u)
+spelled_index_after_index : Spelled index_after_index
+unfolding index_after_index
+spelled_index_after_index = spelled_bind name index_after_name spelled_name (λ named. spelled_index_after_name named)
 
-create_index_1 : Lang Token StmtTree
-create_index_1 = token (t.Keyword k.Index) (create_index_2)
+index_after_unique : Lang Token StmtTree
+index_after_unique = token (t.Keyword k.Index) index_after_index
 
-spelled_create_index_1 : Spelled (create_index_1)
-unfolding create_index_1
-spelled_create_index_1 = spelled_token (t.Keyword k.Index) (create_index_2) (spelled_create_index_2)
+spelled_index_after_unique : Spelled index_after_unique
+unfolding index_after_unique
+spelled_index_after_unique = spelled_token (t.Keyword k.Index) index_after_index spelled_index_after_index
 
-pub spelled_create_index : Spelled (create_index)
-unfolding create_index create_index_1 create_index_2 create_index_3 create_index_4 create_index_5 create_index_6 create_index_7 create_index_made
-spelled_create_index = spelled_token (t.Keyword k.Unique) (create_index_1) (spelled_create_index_1)
+pub spelled_create_index : Spelled create_index
+unfolding create_index index_after_unique index_after_index index_after_name index_after_on index_after_table
+    index_after_elements index_after_condition create_index_made
+spelled_create_index = spelled_token (t.Keyword k.Unique) index_after_unique spelled_index_after_unique
 
-starts_create_index_3 : (v3 : List ℕ) → Starts any (create_index_3 v3) behind_statement
-unfolding create_index_1 create_index_2 create_index_3 create_index_4 create_index_5 create_index_6 create_index_7 create_index_made
-starts_create_index_3 v3 = starts_any (create_index_3 v3) behind_statement
+starts_index_after_name : (named : List ℕ) → Starts any (index_after_name named) behind_statement
+unfolding index_after_unique index_after_index index_after_name index_after_on index_after_table index_after_elements
+    index_after_condition create_index_made
+starts_index_after_name named = starts_any (index_after_name named) behind_statement
 
-starts_create_index_5 : (v3 : List ℕ) → (v5 : List ℕ) → Starts any (create_index_5 v3 v5) behind_statement
-unfolding create_index_1 create_index_2 create_index_3 create_index_4 create_index_5 create_index_6 create_index_7 create_index_made
-starts_create_index_5 v3 v5 = starts_any (create_index_5 v3 v5) behind_statement
+starts_index_after_table : (named : List ℕ) → (table : List ℕ) →
+    Starts any (index_after_table named table) behind_statement
+unfolding index_after_unique index_after_index index_after_name index_after_on index_after_table index_after_elements
+    index_after_condition create_index_made
+starts_index_after_table named table = starts_any (index_after_table named table) behind_statement
 
-starts_create_index_6 : (v3 : List ℕ) → (v5 : List ℕ) → (v6 : List Element) →
-    Starts any (create_index_6 v3 v5 v6) behind_statement
-unfolding create_index_1 create_index_2 create_index_3 create_index_4 create_index_5 create_index_6 create_index_7 create_index_made
-starts_create_index_6 v3 v5 v6 = starts_any (create_index_6 v3 v5 v6) behind_statement
+starts_index_after_elements : (named : List ℕ) → (table : List ℕ) → (listed : List Element) →
+    Starts any (index_after_elements named table listed) behind_statement
+unfolding index_after_unique index_after_index index_after_name index_after_on index_after_table index_after_elements
+    index_after_condition create_index_made
+starts_index_after_elements named table listed = starts_any (index_after_elements named table listed) behind_statement
 
-starts_create_index_7 : (v3 : List ℕ) → (v5 : List ℕ) → (v6 : List Element) → (v7 : Option Tree) →
-    Starts behind_condition (create_index_7 v3 v5 v6 v7) behind_statement
-unfolding create_index_1 create_index_2 create_index_3 create_index_4 create_index_5 create_index_6 create_index_7 create_index_made
-starts_create_index_7 v3 v5 v6 v7 =
-    starts_gives behind_condition behind_statement (create_index_made v3 v5 v6 v7) (end_behind_condition)
+starts_index_after_condition : (named : List ℕ) → (table : List ℕ) → (listed : List Element) →
+    (predicate : Option Tree) →
+    Starts behind_condition (index_after_condition named table listed predicate) behind_statement
+unfolding index_after_unique index_after_index index_after_name index_after_on index_after_table index_after_elements
+    index_after_condition create_index_made
+starts_index_after_condition named table listed predicate =
+    starts_gives behind_condition behind_statement (create_index_made named table listed predicate) end_behind_condition
 
-pub create_index_at_0 : (xs : List Token) (l : ℕ) → Misses (t.Keyword k.Unique) xs → l ≡ length xs →
-    Reads (create_index) behind_statement xs (failed (Syntax l))
-unfolding create_index create_index_1 create_index_2 create_index_3 create_index_4 create_index_5 create_index_6 create_index_7 create_index_made
-create_index_at_0 xs l e1 q =
-    word_missed (t.Keyword k.Unique) (create_index_1) behind_statement xs l e1 q (spelled_create_index_1)
+pub create_index_no_unique : (xs : List Token) (l : ℕ) → Misses (t.Keyword k.Unique) xs → l ≡ length xs →
+    Reads create_index behind_statement xs (failed (Syntax l))
+unfolding create_index index_after_unique index_after_index index_after_name index_after_on index_after_table
+    index_after_elements index_after_condition create_index_made
+create_index_no_unique xs l miss q =
+    word_missed (t.Keyword k.Unique) index_after_unique behind_statement xs l miss q spelled_index_after_unique
 
-pub create_index_at_1 : (xs y1 : List Token) (l : ℕ) → xs ≡ (t.Keyword k.Unique) ∷ y1 → Misses (t.Keyword k.Index) y1 →
-    l ≡ length y1 →
-    Reads (create_index) behind_statement xs (failed (Syntax l))
-unfolding create_index create_index_1 create_index_2 create_index_3 create_index_4 create_index_5 create_index_6 create_index_7 create_index_made
-create_index_at_1 xs y1 l e1 e2 q =
-    word_read (t.Keyword k.Unique) (create_index_1) behind_statement xs y1 (failed (Syntax l)) e1
-    (word_missed (t.Keyword k.Index) (create_index_2) behind_statement y1 l e2 q (spelled_create_index_2))
+pub create_index_no_index : (xs after_unique : List Token) (l : ℕ) →
+    xs ≡ (t.Keyword k.Unique) ∷ after_unique →
+    Misses (t.Keyword k.Index) after_unique →
+    l ≡ length after_unique →
+    Reads create_index behind_statement xs (failed (Syntax l))
+unfolding create_index index_after_unique index_after_index index_after_name index_after_on index_after_table
+    index_after_elements index_after_condition create_index_made
+create_index_no_index xs after_unique l at_unique miss q =
+    word_read (t.Keyword k.Unique) index_after_unique behind_statement xs after_unique (failed (Syntax l)) at_unique
+    (word_missed (t.Keyword k.Index) index_after_index behind_statement after_unique l miss q spelled_index_after_index)
 
-pub create_index_at_2 : (xs y1 y2 : List Token) (f : Fault) → xs ≡ (t.Keyword k.Unique) ∷ y1 →
-    y1 ≡ (t.Keyword k.Index) ∷ y2 → Reads name any y2 (failed f) →
-    Reads (create_index) behind_statement xs (failed f)
-unfolding create_index create_index_1 create_index_2 create_index_3 create_index_4 create_index_5 create_index_6 create_index_7 create_index_made
-create_index_at_2 xs y1 y2 f e1 e2 e3 =
-    word_read (t.Keyword k.Unique) (create_index_1) behind_statement xs y1 (failed f) e1
-    (word_read (t.Keyword k.Index) (create_index_2) behind_statement y1 y2 (failed f) e2
-    (reads_bind_failed name (create_index_3) any behind_statement y2 f e3 (λ v3. starts_create_index_3 v3)
-    (λ v3. spelled_create_index_3 v3)))
+pub create_index_name_failed : (xs after_unique after_index : List Token) (f : Fault) →
+    xs ≡ (t.Keyword k.Unique) ∷ after_unique →
+    after_unique ≡ (t.Keyword k.Index) ∷ after_index →
+    Reads name any after_index (failed f) →
+    Reads create_index behind_statement xs (failed f)
+unfolding create_index index_after_unique index_after_index index_after_name index_after_on index_after_table
+    index_after_elements index_after_condition create_index_made
+create_index_name_failed xs after_unique after_index f at_unique at_index fails =
+    word_read (t.Keyword k.Unique) index_after_unique behind_statement xs after_unique (failed f) at_unique
+    (word_read (t.Keyword k.Index) index_after_index behind_statement after_unique after_index (failed f) at_index
+    (reads_bind_failed name index_after_name any behind_statement after_index f fails
+    (λ named. starts_index_after_name named) (λ named. spelled_index_after_name named)))
 
-pub create_index_at_3 : (xs y1 y2 y3 : List Token) (v3 : List ℕ) (l : ℕ) → xs ≡ (t.Keyword k.Unique) ∷ y1 →
-    y1 ≡ (t.Keyword k.Index) ∷ y2 → Reads name any y2 (read v3 y3) → Misses (t.Keyword k.On) y3 → l ≡ length y3 →
-    Reads (create_index) behind_statement xs (failed (Syntax l))
-unfolding create_index create_index_1 create_index_2 create_index_3 create_index_4 create_index_5 create_index_6 create_index_7 create_index_made
-create_index_at_3 xs y1 y2 y3 v3 l e1 e2 e3 e4 q =
-    word_read (t.Keyword k.Unique) (create_index_1) behind_statement xs y1 (failed (Syntax l)) e1
-    (word_read (t.Keyword k.Index) (create_index_2) behind_statement y1 y2 (failed (Syntax l)) e2
-    (part_read name (create_index_3) any behind_statement y2 y3 v3 (failed (Syntax l)) e3
-    (λ v3. starts_create_index_3 v3)
-    (word_missed (t.Keyword k.On) (create_index_4 v3) behind_statement y3 l e4 q (spelled_create_index_4 v3))))
+pub create_index_no_on : (xs after_unique after_index after_name : List Token) (named : List ℕ) (l : ℕ) →
+    xs ≡ (t.Keyword k.Unique) ∷ after_unique →
+    after_unique ≡ (t.Keyword k.Index) ∷ after_index →
+    Reads name any after_index (read named after_name) →
+    Misses (t.Keyword k.On) after_name →
+    l ≡ length after_name →
+    Reads create_index behind_statement xs (failed (Syntax l))
+unfolding create_index index_after_unique index_after_index index_after_name index_after_on index_after_table
+    index_after_elements index_after_condition create_index_made
+create_index_no_on xs after_unique after_index after_name named l at_unique at_index reads_name miss q =
+    word_read (t.Keyword k.Unique) index_after_unique behind_statement xs after_unique (failed (Syntax l)) at_unique
+    (word_read (t.Keyword k.Index) index_after_index behind_statement after_unique after_index (failed (Syntax l))
+    at_index
+    (part_read name index_after_name any behind_statement after_index after_name named (failed (Syntax l)) reads_name
+    (λ named. starts_index_after_name named)
+    (word_missed (t.Keyword k.On) (index_after_on named) behind_statement after_name l miss q
+    (spelled_index_after_on named))))
 
-pub create_index_at_4 : (xs y1 y2 y3 y4 : List Token) (v3 : List ℕ) (f : Fault) → xs ≡ (t.Keyword k.Unique) ∷ y1 →
-    y1 ≡ (t.Keyword k.Index) ∷ y2 → Reads name any y2 (read v3 y3) → y3 ≡ (t.Keyword k.On) ∷ y4 →
-    Reads name any y4 (failed f) →
-    Reads (create_index) behind_statement xs (failed f)
-unfolding create_index create_index_1 create_index_2 create_index_3 create_index_4 create_index_5 create_index_6 create_index_7 create_index_made
-create_index_at_4 xs y1 y2 y3 y4 v3 f e1 e2 e3 e4 e5 =
-    word_read (t.Keyword k.Unique) (create_index_1) behind_statement xs y1 (failed f) e1
-    (word_read (t.Keyword k.Index) (create_index_2) behind_statement y1 y2 (failed f) e2
-    (part_read name (create_index_3) any behind_statement y2 y3 v3 (failed f) e3 (λ v3. starts_create_index_3 v3)
-    (word_read (t.Keyword k.On) (create_index_4 v3) behind_statement y3 y4 (failed f) e4
-    (reads_bind_failed name (create_index_5 v3) any behind_statement y4 f e5 (λ v5. starts_create_index_5 v3 v5)
-    (λ v5. spelled_create_index_5 v3 v5)))))
+pub create_index_table_failed : (xs after_unique after_index after_name after_on : List Token) (named : List ℕ)
+    (f : Fault) →
+    xs ≡ (t.Keyword k.Unique) ∷ after_unique →
+    after_unique ≡ (t.Keyword k.Index) ∷ after_index →
+    Reads name any after_index (read named after_name) →
+    after_name ≡ (t.Keyword k.On) ∷ after_on →
+    Reads name any after_on (failed f) →
+    Reads create_index behind_statement xs (failed f)
+unfolding create_index index_after_unique index_after_index index_after_name index_after_on index_after_table
+    index_after_elements index_after_condition create_index_made
+create_index_table_failed xs after_unique after_index after_name after_on named f at_unique at_index reads_name at_on
+    fails =
+    word_read (t.Keyword k.Unique) index_after_unique behind_statement xs after_unique (failed f) at_unique
+    (word_read (t.Keyword k.Index) index_after_index behind_statement after_unique after_index (failed f) at_index
+    (part_read name index_after_name any behind_statement after_index after_name named (failed f) reads_name
+    (λ named. starts_index_after_name named)
+    (word_read (t.Keyword k.On) (index_after_on named) behind_statement after_name after_on (failed f) at_on
+    (reads_bind_failed name (index_after_table named) any behind_statement after_on f fails
+    (λ table. starts_index_after_table named table) (λ table. spelled_index_after_table named table)))))
 
-pub create_index_at_5 : (xs y1 y2 y3 y4 y5 : List Token) (v3 : List ℕ) (v5 : List ℕ) (f : Fault) →
-    xs ≡ (t.Keyword k.Unique) ∷ y1 → y1 ≡ (t.Keyword k.Index) ∷ y2 → Reads name any y2 (read v3 y3) →
-    y3 ≡ (t.Keyword k.On) ∷ y4 → Reads name any y4 (read v5 y5) → Reads elements any y5 (failed f) →
-    Reads (create_index) behind_statement xs (failed f)
-unfolding create_index create_index_1 create_index_2 create_index_3 create_index_4 create_index_5 create_index_6 create_index_7 create_index_made
-create_index_at_5 xs y1 y2 y3 y4 y5 v3 v5 f e1 e2 e3 e4 e5 e6 =
-    word_read (t.Keyword k.Unique) (create_index_1) behind_statement xs y1 (failed f) e1
-    (word_read (t.Keyword k.Index) (create_index_2) behind_statement y1 y2 (failed f) e2
-    (part_read name (create_index_3) any behind_statement y2 y3 v3 (failed f) e3 (λ v3. starts_create_index_3 v3)
-    (word_read (t.Keyword k.On) (create_index_4 v3) behind_statement y3 y4 (failed f) e4
-    (part_read name (create_index_5 v3) any behind_statement y4 y5 v5 (failed f) e5 (λ v5. starts_create_index_5 v3 v5)
-    (reads_bind_failed elements (create_index_6 v3 v5) any behind_statement y5 f e6
-    (λ v6. starts_create_index_6 v3 v5 v6) (λ v6. spelled_create_index_6 v3 v5 v6))))))
+pub create_index_elements_failed : (xs after_unique after_index after_name after_on after_table : List Token)
+    (named : List ℕ) (table : List ℕ) (f : Fault) →
+    xs ≡ (t.Keyword k.Unique) ∷ after_unique →
+    after_unique ≡ (t.Keyword k.Index) ∷ after_index →
+    Reads name any after_index (read named after_name) →
+    after_name ≡ (t.Keyword k.On) ∷ after_on →
+    Reads name any after_on (read table after_table) →
+    Reads elements any after_table (failed f) →
+    Reads create_index behind_statement xs (failed f)
+unfolding create_index index_after_unique index_after_index index_after_name index_after_on index_after_table
+    index_after_elements index_after_condition create_index_made
+create_index_elements_failed xs after_unique after_index after_name after_on after_table named table f at_unique
+    at_index reads_name at_on reads_table fails =
+    word_read (t.Keyword k.Unique) index_after_unique behind_statement xs after_unique (failed f) at_unique
+    (word_read (t.Keyword k.Index) index_after_index behind_statement after_unique after_index (failed f) at_index
+    (part_read name index_after_name any behind_statement after_index after_name named (failed f) reads_name
+    (λ named. starts_index_after_name named)
+    (word_read (t.Keyword k.On) (index_after_on named) behind_statement after_name after_on (failed f) at_on
+    (part_read name (index_after_table named) any behind_statement after_on after_table table (failed f) reads_table
+    (λ table. starts_index_after_table named table)
+    (reads_bind_failed elements (index_after_elements named table) any behind_statement after_table f fails
+    (λ listed. starts_index_after_elements named table listed)
+    (λ listed. spelled_index_after_elements named table listed))))))
 
-pub create_index_at_6 : (xs y1 y2 y3 y4 y5 y6 : List Token) (v3 : List ℕ) (v5 : List ℕ) (v6 : List Element)
-    (f : Fault) → xs ≡ (t.Keyword k.Unique) ∷ y1 → y1 ≡ (t.Keyword k.Index) ∷ y2 → Reads name any y2 (read v3 y3) →
-    y3 ≡ (t.Keyword k.On) ∷ y4 → Reads name any y4 (read v5 y5) → Reads elements any y5 (read v6 y6) →
-    Reads condition behind_condition y6 (failed f) →
-    Reads (create_index) behind_statement xs (failed f)
-unfolding create_index create_index_1 create_index_2 create_index_3 create_index_4 create_index_5 create_index_6 create_index_7 create_index_made
-create_index_at_6 xs y1 y2 y3 y4 y5 y6 v3 v5 v6 f e1 e2 e3 e4 e5 e6 e7 =
-    word_read (t.Keyword k.Unique) (create_index_1) behind_statement xs y1 (failed f) e1
-    (word_read (t.Keyword k.Index) (create_index_2) behind_statement y1 y2 (failed f) e2
-    (part_read name (create_index_3) any behind_statement y2 y3 v3 (failed f) e3 (λ v3. starts_create_index_3 v3)
-    (word_read (t.Keyword k.On) (create_index_4 v3) behind_statement y3 y4 (failed f) e4
-    (part_read name (create_index_5 v3) any behind_statement y4 y5 v5 (failed f) e5 (λ v5. starts_create_index_5 v3 v5)
-    (part_read elements (create_index_6 v3 v5) any behind_statement y5 y6 v6 (failed f) e6
-    (λ v6. starts_create_index_6 v3 v5 v6)
-    (reads_bind_failed condition (create_index_7 v3 v5 v6) behind_condition behind_statement y6 f e7
-    (λ v7. starts_create_index_7 v3 v5 v6 v7) (λ v7. spelled_create_index_7 v3 v5 v6 v7)))))))
+pub create_index_condition_failed :
+    (xs after_unique after_index after_name after_on after_table after_elements : List Token) (named : List ℕ)
+    (table : List ℕ) (listed : List Element) (f : Fault) →
+    xs ≡ (t.Keyword k.Unique) ∷ after_unique →
+    after_unique ≡ (t.Keyword k.Index) ∷ after_index →
+    Reads name any after_index (read named after_name) →
+    after_name ≡ (t.Keyword k.On) ∷ after_on →
+    Reads name any after_on (read table after_table) →
+    Reads elements any after_table (read listed after_elements) →
+    Reads condition behind_condition after_elements (failed f) →
+    Reads create_index behind_statement xs (failed f)
+unfolding create_index index_after_unique index_after_index index_after_name index_after_on index_after_table
+    index_after_elements index_after_condition create_index_made
+create_index_condition_failed xs after_unique after_index after_name after_on after_table after_elements named table
+    listed f at_unique at_index reads_name at_on reads_table reads_elements fails =
+    word_read (t.Keyword k.Unique) index_after_unique behind_statement xs after_unique (failed f) at_unique
+    (word_read (t.Keyword k.Index) index_after_index behind_statement after_unique after_index (failed f) at_index
+    (part_read name index_after_name any behind_statement after_index after_name named (failed f) reads_name
+    (λ named. starts_index_after_name named)
+    (word_read (t.Keyword k.On) (index_after_on named) behind_statement after_name after_on (failed f) at_on
+    (part_read name (index_after_table named) any behind_statement after_on after_table table (failed f) reads_table
+    (λ table. starts_index_after_table named table)
+    (part_read elements (index_after_elements named table) any behind_statement after_table after_elements listed
+    (failed f) reads_elements (λ listed. starts_index_after_elements named table listed)
+    (reads_bind_failed condition (index_after_condition named table listed) behind_condition behind_statement
+    after_elements f fails (λ predicate. starts_index_after_condition named table listed predicate)
+    (λ predicate. spelled_index_after_condition named table listed predicate)))))))
 
-pub create_index_at_7 : (xs y1 y2 y3 y4 y5 y6 y7 : List Token) (v3 : List ℕ) (v5 : List ℕ) (v6 : List Element)
-    (v7 : Option Tree) → xs ≡ (t.Keyword k.Unique) ∷ y1 → y1 ≡ (t.Keyword k.Index) ∷ y2 →
-    Reads name any y2 (read v3 y3) → y3 ≡ (t.Keyword k.On) ∷ y4 → Reads name any y4 (read v5 y5) →
-    Reads elements any y5 (read v6 y6) → Reads condition behind_condition y6 (read v7 y7) →
-    Reads (create_index) behind_statement xs (read (stmt.CreateIndex (record {
+pub create_index_whole : (xs after_unique after_index after_name after_on after_table after_elements rest : List Token)
+    (named : List ℕ) (table : List ℕ) (listed : List Element) (predicate : Option Tree) →
+    xs ≡ (t.Keyword k.Unique) ∷ after_unique →
+    after_unique ≡ (t.Keyword k.Index) ∷ after_index →
+    Reads name any after_index (read named after_name) →
+    after_name ≡ (t.Keyword k.On) ∷ after_on →
+    Reads name any after_on (read table after_table) →
+    Reads elements any after_table (read listed after_elements) →
+    Reads condition behind_condition after_elements (read predicate rest) →
+    Reads create_index behind_statement xs (read (stmt.CreateIndex (record {
       name =
-          v3;
-      table = v5;
-      elements = v6;
-      predicate = v7;
-    })) y7)
-unfolding create_index create_index_1 create_index_2 create_index_3 create_index_4 create_index_5 create_index_6 create_index_7 create_index_made
-create_index_at_7 xs y1 y2 y3 y4 y5 y6 y7 v3 v5 v6 v7 e1 e2 e3 e4 e5 e6 e7 =
-    word_read (t.Keyword k.Unique) (create_index_1) behind_statement xs y1
-    (read (stmt.CreateIndex (record { name = v3; table = v5; elements = v6; predicate = v7 })) y7) e1
-    (word_read (t.Keyword k.Index) (create_index_2) behind_statement y1 y2
-    (read (stmt.CreateIndex (record { name = v3; table = v5; elements = v6; predicate = v7 })) y7) e2
-    (part_read name (create_index_3) any behind_statement y2 y3 v3
-    (read (stmt.CreateIndex (record { name = v3; table = v5; elements = v6; predicate = v7 })) y7) e3
-    (λ v3. starts_create_index_3 v3)
-    (word_read (t.Keyword k.On) (create_index_4 v3) behind_statement y3 y4
-    (read (stmt.CreateIndex (record { name = v3; table = v5; elements = v6; predicate = v7 })) y7) e4
-    (part_read name (create_index_5 v3) any behind_statement y4 y5 v5
-    (read (stmt.CreateIndex (record { name = v3; table = v5; elements = v6; predicate = v7 })) y7) e5
-    (λ v5. starts_create_index_5 v3 v5)
-    (part_read elements (create_index_6 v3 v5) any behind_statement y5 y6 v6
-    (read (stmt.CreateIndex (record { name = v3; table = v5; elements = v6; predicate = v7 })) y7) e6
-    (λ v6. starts_create_index_6 v3 v5 v6)
-    (part_read condition (create_index_7 v3 v5 v6) behind_condition behind_statement y6 y7 v7
-    (read (stmt.CreateIndex (record { name = v3; table = v5; elements = v6; predicate = v7 })) y7) e7
-    (λ v7. starts_create_index_7 v3 v5 v6 v7)
-    (reads_gives (create_index_made v3 v5 v6 v7) (create_index_made v3 v5 v6 v7) behind_statement y7 refl)))))))
+          named;
+      table = table;
+      elements = listed;
+      predicate = predicate;
+    })) rest)
+unfolding create_index index_after_unique index_after_index index_after_name index_after_on index_after_table
+    index_after_elements index_after_condition create_index_made
+create_index_whole xs after_unique after_index after_name after_on after_table after_elements rest named table listed
+    predicate at_unique at_index reads_name at_on reads_table reads_elements reads_condition =
+    word_read (t.Keyword k.Unique) index_after_unique behind_statement xs after_unique
+    (read (create_index_made named table listed predicate) rest) at_unique
+    (word_read (t.Keyword k.Index) index_after_index behind_statement after_unique after_index
+    (read (create_index_made named table listed predicate) rest) at_index
+    (part_read name index_after_name any behind_statement after_index after_name named
+    (read (create_index_made named table listed predicate) rest) reads_name (λ named. starts_index_after_name named)
+    (word_read (t.Keyword k.On) (index_after_on named) behind_statement after_name after_on
+    (read (create_index_made named table listed predicate) rest) at_on
+    (part_read name (index_after_table named) any behind_statement after_on after_table table
+    (read (create_index_made named table listed predicate) rest) reads_table
+    (λ table. starts_index_after_table named table)
+    (part_read elements (index_after_elements named table) any behind_statement after_table after_elements listed
+    (read (create_index_made named table listed predicate) rest) reads_elements
+    (λ listed. starts_index_after_elements named table listed)
+    (part_read condition (index_after_condition named table listed) behind_condition behind_statement after_elements
+    rest predicate (read (create_index_made named table listed predicate) rest) reads_condition
+    (λ predicate. starts_index_after_condition named table listed predicate)
+    (reads_gives (create_index_made named table listed predicate) (create_index_made named table listed predicate)
+    behind_statement rest refl)))))))

@@ -113,10 +113,6 @@ subselect_end_behind_condition (Some (t.Keyword k.On)) e = refl
 subselect_end_behind_condition (Some (t.Keyword k.Returning)) e = refl
 subselect_end_behind_condition _ e = absurd (false≢true e)
 
-pub where_goes_on_condition : behind_condition (Some (t.Keyword k.Where)) ≡ false
-unfolding behind_condition behind_expr is_word behind_conjunction has or_op spelling and_op behind_predicate behind_comparison behind_concatenation compare_op behind_sum concat_op behind_product sum_op behind_factor product_op
-where_goes_on_condition = refl
-
 -- behind_item
 pub none_follows : behind_item None ≡ true
 unfolding behind_item behind_as behind_expr is_word behind_conjunction has or_op spelling and_op behind_predicate behind_comparison behind_concatenation compare_op behind_sum concat_op behind_product sum_op behind_factor product_op
@@ -307,10 +303,6 @@ pub nowait_behind_of : behind_of (Some (t.Keyword k.Nowait)) ≡ true
 unfolding behind_of is_word spelling
 nowait_behind_of = refl
 
-pub of_goes_on_of : behind_of (Some (t.Keyword k.Of)) ≡ false
-unfolding behind_of is_word spelling
-of_goes_on_of = refl
-
 pub skip_behind_of : behind_of (Some (t.Keyword k.Skip)) ≡ true
 unfolding behind_of is_word spelling
 skip_behind_of = refl
@@ -370,10 +362,6 @@ unfolding behind_on_conflict behind_conflict is_word behind_sets spelling behind
 returning_behind_on_conflict = refl
 
 -- behind_guard
-pub and_goes_on_guard : behind_guard (Some (t.Keyword k.And)) ≡ false
-unfolding behind_guard behind_expr is_word behind_conjunction has or_op spelling and_op behind_predicate behind_comparison behind_concatenation compare_op behind_sum concat_op behind_product sum_op behind_factor product_op
-and_goes_on_guard = refl
-
 pub then_behind_guard : behind_guard (Some (t.Keyword k.Then)) ≡ true
 unfolding behind_guard behind_expr is_word behind_conjunction has or_op spelling and_op behind_predicate behind_comparison behind_concatenation compare_op behind_sum concat_op behind_product sum_op behind_factor product_op
 then_behind_guard = refl
@@ -397,10 +385,6 @@ when_goes_on_whens = refl
 pub check_behind_constraint_name : behind_constraint_name (Some (t.Keyword k.Check)) ≡ true
 unfolding behind_constraint_name is_word spelling
 check_behind_constraint_name = refl
-
-pub constraint_goes_on_constraint_name : behind_constraint_name (Some (t.Keyword k.Constraint)) ≡ false
-unfolding behind_constraint_name is_word spelling
-constraint_goes_on_constraint_name = refl
 
 pub primary_behind_constraint_name : behind_constraint_name (Some (t.Keyword k.Primary)) ≡ true
 unfolding behind_constraint_name is_word spelling

@@ -150,135 +150,150 @@ rows_neither xs l a b q =
     (bars_token behind_rows (t.Keyword k.Select) (bind (subselect 0) query_made) 0 xs (λ h. b.misses h)))
     spelled_rows q
 
-target_elements_made : (v1 : List Element) → (v2 : Option Tree) → ConflictTarget
-target_elements_made v1 v2 = target_of.Elements v1 v2
+-- "(" element {"," element} ")" [WHERE expr]
+target_elements_made : (listed : List Element) → (predicate : Option Tree) → ConflictTarget
+target_elements_made listed predicate = target_of.Elements listed predicate
 
-target_elements_2 : (v1 : List Element) → (v2 : Option Tree) → Lang Token ConflictTarget
-target_elements_2 v1 v2 = gives (target_elements_made v1 v2)
+target_after_condition : (listed : List Element) → (predicate : Option Tree) → Lang Token ConflictTarget
+target_after_condition listed predicate = gives (target_elements_made listed predicate)
 
-spelled_target_elements_2 : (v1 : List Element) → (v2 : Option Tree) → Spelled (target_elements_2 v1 v2)
-unfolding target_elements_2
-spelled_target_elements_2 v1 v2 = spelled_gives (target_elements_made v1 v2)
+spelled_target_after_condition : (listed : List Element) → (predicate : Option Tree) →
+    Spelled (target_after_condition listed predicate)
+unfolding target_after_condition
+spelled_target_after_condition listed predicate = spelled_gives (target_elements_made listed predicate)
 
-target_elements_1 : (v1 : List Element) → Lang Token ConflictTarget
-target_elements_1 v1 = bind condition (target_elements_2 v1)
+target_after_elements : (listed : List Element) → Lang Token ConflictTarget
+target_after_elements listed = bind condition (target_after_condition listed)
 
-spelled_target_elements_1 : (v1 : List Element) → Spelled (target_elements_1 v1)
-unfolding target_elements_1
-spelled_target_elements_1 v1 =
-    spelled_bind condition (target_elements_2 v1) spelled_where (λ u. spelled_target_elements_2 v1 u)
+spelled_target_after_elements : (listed : List Element) → Spelled (target_after_elements listed)
+unfolding target_after_elements
+spelled_target_after_elements listed =
+    spelled_bind condition (target_after_condition listed) spelled_where
+    (λ predicate. spelled_target_after_condition listed predicate)
 
-pub spelled_target_elements : Spelled (target_elements)
-unfolding target_elements target_elements_1 target_elements_2 target_elements_made
-spelled_target_elements = spelled_bind elements (target_elements_1) spelled_elements (λ u. spelled_target_elements_1 u)
+pub spelled_target_elements : Spelled target_elements
+unfolding target_elements target_after_elements target_after_condition target_elements_made
+spelled_target_elements =
+    spelled_bind elements target_after_elements spelled_elements (λ listed. spelled_target_after_elements listed)
 
-starts_target_elements_1 : (v1 : List Element) → Starts any (target_elements_1 v1) behind_condition
-unfolding target_elements_1 target_elements_2 target_elements_made
-starts_target_elements_1 v1 = starts_any (target_elements_1 v1) behind_condition
+starts_target_after_elements : (listed : List Element) → Starts any (target_after_elements listed) behind_condition
+unfolding target_after_elements target_after_condition target_elements_made
+starts_target_after_elements listed = starts_any (target_after_elements listed) behind_condition
 
-starts_target_elements_2 : (v1 : List Element) → (v2 : Option Tree) →
-    Starts behind_condition (target_elements_2 v1 v2) behind_condition
-unfolding target_elements_1 target_elements_2 target_elements_made
-starts_target_elements_2 v1 v2 = starts_gives behind_condition behind_condition (target_elements_made v1 v2) (λ o e. e)
+starts_target_after_condition : (listed : List Element) → (predicate : Option Tree) →
+    Starts behind_condition (target_after_condition listed predicate) behind_condition
+unfolding target_after_elements target_after_condition target_elements_made
+starts_target_after_condition listed predicate =
+    starts_gives behind_condition behind_condition (target_elements_made listed predicate) (λ o e. e)
 
-pub target_elements_at_0 : (xs : List Token) (f : Fault) → Reads elements any xs (failed f) →
-    Reads (target_elements) behind_condition xs (failed f)
-unfolding target_elements target_elements_1 target_elements_2 target_elements_made
-target_elements_at_0 xs f e1 =
-    reads_bind_failed elements (target_elements_1) any behind_condition xs f e1 (λ v1. starts_target_elements_1 v1)
-    (λ v1. spelled_target_elements_1 v1)
+pub target_list_elements_failed : (xs : List Token) (f : Fault) → Reads elements any xs (failed f) →
+    Reads target_elements behind_condition xs (failed f)
+unfolding target_elements target_after_elements target_after_condition target_elements_made
+target_list_elements_failed xs f fails =
+    reads_bind_failed elements target_after_elements any behind_condition xs f fails
+    (λ listed. starts_target_after_elements listed) (λ listed. spelled_target_after_elements listed)
 
-pub target_elements_at_1 : (xs y1 : List Token) (v1 : List Element) (f : Fault) → Reads elements any xs (read v1 y1) →
-    Reads condition behind_condition y1 (failed f) →
-    Reads (target_elements) behind_condition xs (failed f)
-unfolding target_elements target_elements_1 target_elements_2 target_elements_made
-target_elements_at_1 xs y1 v1 f e1 e2 =
-    part_read elements (target_elements_1) any behind_condition xs y1 v1 (failed f) e1
-    (λ v1. starts_target_elements_1 v1)
-    (reads_bind_failed condition (target_elements_2 v1) behind_condition behind_condition y1 f e2
-    (λ v2. starts_target_elements_2 v1 v2) (λ v2. spelled_target_elements_2 v1 v2))
+pub target_list_condition_failed : (xs after_elements : List Token) (listed : List Element) (f : Fault) →
+    Reads elements any xs (read listed after_elements) →
+    Reads condition behind_condition after_elements (failed f) →
+    Reads target_elements behind_condition xs (failed f)
+unfolding target_elements target_after_elements target_after_condition target_elements_made
+target_list_condition_failed xs after_elements listed f reads_elements fails =
+    part_read elements target_after_elements any behind_condition xs after_elements listed (failed f) reads_elements
+    (λ listed. starts_target_after_elements listed)
+    (reads_bind_failed condition (target_after_condition listed) behind_condition behind_condition after_elements f
+    fails (λ predicate. starts_target_after_condition listed predicate)
+    (λ predicate. spelled_target_after_condition listed predicate))
 
-pub target_elements_at_2 : (xs y1 y2 : List Token) (v1 : List Element) (v2 : Option Tree) →
-    Reads elements any xs (read v1 y1) →
-    Reads condition behind_condition y1 (read v2 y2) →
-    Reads (target_elements) behind_condition xs (read (target_of.Elements v1 v2) y2)
-unfolding target_elements target_elements_1 target_elements_2 target_elements_made
-target_elements_at_2 xs y1 y2 v1 v2 e1 e2 =
-    part_read elements (target_elements_1) any behind_condition xs y1 v1 (read (target_of.Elements v1 v2) y2) e1
-    (λ v1. starts_target_elements_1 v1)
-    (part_read condition (target_elements_2 v1) behind_condition behind_condition y1 y2 v2
-    (read (target_of.Elements v1 v2) y2) e2 (λ v2. starts_target_elements_2 v1 v2)
-    (reads_gives (target_elements_made v1 v2) (target_elements_made v1 v2) behind_condition y2 refl))
+pub target_list_whole : (xs after_elements rest : List Token) (listed : List Element) (predicate : Option Tree) →
+    Reads elements any xs (read listed after_elements) →
+    Reads condition behind_condition after_elements (read predicate rest) →
+    Reads target_elements behind_condition xs (read (target_of.Elements listed predicate) rest)
+unfolding target_elements target_after_elements target_after_condition target_elements_made
+target_list_whole xs after_elements rest listed predicate reads_elements reads_condition =
+    part_read elements target_after_elements any behind_condition xs after_elements listed
+    (read (target_of.Elements listed predicate) rest) reads_elements (λ listed. starts_target_after_elements listed)
+    (part_read condition (target_after_condition listed) behind_condition behind_condition after_elements rest predicate
+    (read (target_of.Elements listed predicate) rest) reads_condition
+    (λ predicate. starts_target_after_condition listed predicate)
+    (reads_gives (target_elements_made listed predicate) (target_elements_made listed predicate) behind_condition
+    rest refl))
 
-target_constraint_made : (v3 : List ℕ) → ConflictTarget
-target_constraint_made v3 = target_of.Constraint v3
+-- ON CONSTRAINT name
+target_constraint_made : (named : List ℕ) → ConflictTarget
+target_constraint_made named = target_of.Constraint named
 
-target_constraint_3 : (v3 : List ℕ) → Lang Token ConflictTarget
-target_constraint_3 v3 = gives (target_constraint_made v3)
+target_after_name : (named : List ℕ) → Lang Token ConflictTarget
+target_after_name named = gives (target_constraint_made named)
 
-spelled_target_constraint_3 : (v3 : List ℕ) → Spelled (target_constraint_3 v3)
-unfolding target_constraint_3
-spelled_target_constraint_3 v3 = spelled_gives (target_constraint_made v3)
+spelled_target_after_name : (named : List ℕ) → Spelled (target_after_name named)
+unfolding target_after_name
+spelled_target_after_name named = spelled_gives (target_constraint_made named)
 
-target_constraint_2 : Lang Token ConflictTarget
-target_constraint_2 = bind name (target_constraint_3)
+target_after_constraint : Lang Token ConflictTarget
+target_after_constraint = bind name target_after_name
 
-spelled_target_constraint_2 : Spelled (target_constraint_2)
-unfolding target_constraint_2
-spelled_target_constraint_2 = spelled_bind name (target_constraint_3) spelled_name (λ u. spelled_target_constraint_3 u)
+spelled_target_after_constraint : Spelled target_after_constraint
+unfolding target_after_constraint
+spelled_target_after_constraint =
+    spelled_bind name target_after_name spelled_name (λ named. spelled_target_after_name named)
 
-target_constraint_1 : Lang Token ConflictTarget
-target_constraint_1 = token (t.Keyword k.Constraint) (target_constraint_2)
+target_after_on : Lang Token ConflictTarget
+target_after_on = token (t.Keyword k.Constraint) target_after_constraint
 
-spelled_target_constraint_1 : Spelled (target_constraint_1)
-unfolding target_constraint_1
-spelled_target_constraint_1 = spelled_token (t.Keyword k.Constraint) (target_constraint_2) (spelled_target_constraint_2)
+spelled_target_after_on : Spelled target_after_on
+unfolding target_after_on
+spelled_target_after_on = spelled_token (t.Keyword k.Constraint) target_after_constraint spelled_target_after_constraint
 
-pub spelled_target_constraint : Spelled (target_constraint)
-unfolding target_constraint target_constraint_1 target_constraint_2 target_constraint_3 target_constraint_made
-spelled_target_constraint = spelled_token (t.Keyword k.On) (target_constraint_1) (spelled_target_constraint_1)
+pub spelled_target_constraint : Spelled target_constraint
+unfolding target_constraint target_after_on target_after_constraint target_after_name target_constraint_made
+spelled_target_constraint = spelled_token (t.Keyword k.On) target_after_on spelled_target_after_on
 
-starts_target_constraint_3 : (v3 : List ℕ) → Starts any (target_constraint_3 v3) any
-unfolding target_constraint_1 target_constraint_2 target_constraint_3 target_constraint_made
-starts_target_constraint_3 v3 = starts_any (target_constraint_3 v3) any
+starts_target_after_name : (named : List ℕ) → Starts any (target_after_name named) any
+unfolding target_after_on target_after_constraint target_after_name target_constraint_made
+starts_target_after_name named = starts_any (target_after_name named) any
 
-pub target_constraint_at_0 : (xs : List Token) (l : ℕ) → Misses (t.Keyword k.On) xs →
+pub target_constraint_no_on : (xs : List Token) (l : ℕ) → Misses (t.Keyword k.On) xs →
     l ≡ length xs →
-    Reads (target_constraint) any xs (failed (Syntax l))
-unfolding target_constraint target_constraint_1 target_constraint_2 target_constraint_3 target_constraint_made
-target_constraint_at_0 xs l e1 q =
-    word_missed (t.Keyword k.On) (target_constraint_1) any xs l e1 q (spelled_target_constraint_1)
+    Reads target_constraint any xs (failed (Syntax l))
+unfolding target_constraint target_after_on target_after_constraint target_after_name target_constraint_made
+target_constraint_no_on xs l miss q =
+    word_missed (t.Keyword k.On) target_after_on any xs l miss q spelled_target_after_on
 
-pub target_constraint_at_1 : (xs y1 : List Token) (l : ℕ) → xs ≡ (t.Keyword k.On) ∷ y1 →
-    Misses (t.Keyword k.Constraint) y1 →
-    l ≡ length y1 →
-    Reads (target_constraint) any xs (failed (Syntax l))
-unfolding target_constraint target_constraint_1 target_constraint_2 target_constraint_3 target_constraint_made
-target_constraint_at_1 xs y1 l e1 e2 q =
-    word_read (t.Keyword k.On) (target_constraint_1) any xs y1 (failed (Syntax l)) e1
-    (word_missed (t.Keyword k.Constraint) (target_constraint_2) any y1 l e2 q (spelled_target_constraint_2))
+pub target_constraint_no_word : (xs after_on : List Token) (l : ℕ) → xs ≡ (t.Keyword k.On) ∷ after_on →
+    Misses (t.Keyword k.Constraint) after_on →
+    l ≡ length after_on →
+    Reads target_constraint any xs (failed (Syntax l))
+unfolding target_constraint target_after_on target_after_constraint target_after_name target_constraint_made
+target_constraint_no_word xs after_on l at_on miss q =
+    word_read (t.Keyword k.On) target_after_on any xs after_on (failed (Syntax l)) at_on
+    (word_missed (t.Keyword k.Constraint) target_after_constraint any after_on l miss q spelled_target_after_constraint)
 
-pub target_constraint_at_2 : (xs y1 y2 : List Token) (f : Fault) → xs ≡ (t.Keyword k.On) ∷ y1 →
-    y1 ≡ (t.Keyword k.Constraint) ∷ y2 →
-    Reads name any y2 (failed f) →
-    Reads (target_constraint) any xs (failed f)
-unfolding target_constraint target_constraint_1 target_constraint_2 target_constraint_3 target_constraint_made
-target_constraint_at_2 xs y1 y2 f e1 e2 e3 = word_read (t.Keyword k.On) (target_constraint_1) any xs y1 (failed f) e1
-    (word_read (t.Keyword k.Constraint) (target_constraint_2) any y1 y2 (failed f) e2
-    (reads_bind_failed name (target_constraint_3) any any y2 f e3 (λ v3. starts_target_constraint_3 v3)
-    (λ v3. spelled_target_constraint_3 v3)))
+pub target_constraint_name_failed : (xs after_on after_constraint : List Token) (f : Fault) →
+    xs ≡ (t.Keyword k.On) ∷ after_on →
+    after_on ≡ (t.Keyword k.Constraint) ∷ after_constraint →
+    Reads name any after_constraint (failed f) →
+    Reads target_constraint any xs (failed f)
+unfolding target_constraint target_after_on target_after_constraint target_after_name target_constraint_made
+target_constraint_name_failed xs after_on after_constraint f at_on at_constraint fails =
+    word_read (t.Keyword k.On) target_after_on any xs after_on (failed f) at_on
+    (word_read (t.Keyword k.Constraint) target_after_constraint any after_on after_constraint (failed f) at_constraint
+    (reads_bind_failed name target_after_name any any after_constraint f fails (λ named. starts_target_after_name named)
+    (λ named. spelled_target_after_name named)))
 
-pub target_constraint_at_3 : (xs y1 y2 y3 : List Token) (v3 : List ℕ) → xs ≡ (t.Keyword k.On) ∷ y1 →
-    y1 ≡ (t.Keyword k.Constraint) ∷ y2 →
-    Reads name any y2 (read v3 y3) →
-    Reads (target_constraint) any xs (read (target_of.Constraint v3) y3)
-unfolding target_constraint target_constraint_1 target_constraint_2 target_constraint_3 target_constraint_made
-target_constraint_at_3 xs y1 y2 y3 v3 e1 e2 e3 =
-    word_read (t.Keyword k.On) (target_constraint_1) any xs y1 (read (target_of.Constraint v3) y3) e1
-    (word_read (t.Keyword k.Constraint) (target_constraint_2) any y1 y2 (read (target_of.Constraint v3) y3) e2
-    (part_read name (target_constraint_3) any any y2 y3 v3 (read (target_of.Constraint v3) y3) e3
-    (λ v3. starts_target_constraint_3 v3)
-    (reads_gives (target_constraint_made v3) (target_constraint_made v3) any y3 refl)))
+pub target_constraint_whole : (xs after_on after_constraint rest : List Token) (named : List ℕ) →
+    xs ≡ (t.Keyword k.On) ∷ after_on →
+    after_on ≡ (t.Keyword k.Constraint) ∷ after_constraint →
+    Reads name any after_constraint (read named rest) →
+    Reads target_constraint any xs (read (target_of.Constraint named) rest)
+unfolding target_constraint target_after_on target_after_constraint target_after_name target_constraint_made
+target_constraint_whole xs after_on after_constraint rest named at_on at_constraint reads_name =
+    word_read (t.Keyword k.On) target_after_on any xs after_on (read (target_of.Constraint named) rest) at_on
+    (word_read (t.Keyword k.Constraint) target_after_constraint any after_on after_constraint
+    (read (target_of.Constraint named) rest) at_constraint
+    (part_read name target_after_name any any after_constraint rest named (read (target_of.Constraint named) rest)
+    reads_name (λ named. starts_target_after_name named)
+    (reads_gives (target_constraint_made named) (target_constraint_made named) any rest refl)))
 
 target_open : (xs ys : List Token) → xs ≡ t.Sign s.Open ∷ ys → Misses (t.Keyword k.On) xs
 target_open xs ys e = record { misses = λ n. cc (e, n) }
@@ -309,14 +324,15 @@ elements_target xs ys o e r =
 
 constraint_target : (xs ys : List Token) (o : Seen Token ConflictTarget) → xs ≡ t.Keyword k.On ∷ ys →
     Reads target_constraint any xs o → Reads conflict_target behind_condition xs o
-unfolding conflict_target target_elements elements in_brackets target_elements_1 target_elements_2 target_elements_made
+unfolding conflict_target target_elements elements in_brackets target_after_elements target_after_condition
+    target_elements_made
 constraint_target xs ys o e r =
     (leads_right (bind (sign s.Open (bind (list_of element) (λ v. sign s.Close
-    (gives v)))) target_elements_1) target_constraint behind_condition xs
+    (gives v)))) target_after_elements) target_constraint behind_condition xs
     (bars_bind any behind_condition (sign s.Open (bind (list_of element)
-    (λ v. sign s.Close (gives v)))) target_elements_1 1 xs
+    (λ v. sign s.Close (gives v)))) target_after_elements 1 xs
     (bars_token any (t.Sign s.Open) (bind (list_of element) (λ v. sign s.Close (gives v))) 0 xs (λ n. cc (e, n)))
-    (λ v. starts_any (target_elements_1 v) behind_condition))).to o
+    (λ v. starts_any (target_after_elements v) behind_condition))).to o
     (reads_narrow target_constraint any behind_condition xs o (λ o h. refl) r)
 
 leads_target : (xs : List Token) → behind_target (next xs) ≡ false →
@@ -369,15 +385,16 @@ target_constraint_failed xs ys f e r = target_failed xs f (on_on xs ys e) (const
 
 pub target_none : (xs : List Token) → Misses (t.Sign s.Open) xs → Misses (t.Keyword k.On) xs →
     Reads (optional conflict_target) behind_target xs (read None xs)
-unfolding some_target conflict_target target_constraint target_elements elements in_brackets target_elements_1 target_elements_2 target_elements_made
+unfolding some_target conflict_target target_constraint target_elements elements in_brackets target_after_elements
+    target_after_condition target_elements_made
 target_none xs a b =
     (leads_right (bind conflict_target some_target) (gives None) behind_target xs
     (bars_bind any behind_target conflict_target some_target 1 xs
-    (bars_either any (bind (sign s.Open (bind (list_of element) (λ v. sign s.Close (gives v)))) target_elements_1)
+    (bars_either any (bind (sign s.Open (bind (list_of element) (λ v. sign s.Close (gives v)))) target_after_elements)
     (word k.On (word k.Constraint (bind name (λ n. gives (target_of.Constraint n))))) 1 xs
-    (bars_bind any any (sign s.Open (bind (list_of element) (λ v. sign s.Close (gives v)))) target_elements_1 1 xs
+    (bars_bind any any (sign s.Open (bind (list_of element) (λ v. sign s.Close (gives v)))) target_after_elements 1 xs
     (bars_token any (t.Sign s.Open) (bind (list_of element) (λ v. sign s.Close (gives v))) 0 xs (λ n. a.misses n))
-    (λ v. starts_any (target_elements_1 v) any))
+    (λ v. starts_any (target_after_elements v) any))
     (bars_token any (t.Keyword k.On) (word k.Constraint (bind name (λ n. gives (target_of.Constraint n)))) 0 xs
     (λ n. b.misses n)))
     (λ v. starts_any (some_target v) behind_target))).to (read None xs)
@@ -391,122 +408,148 @@ sets_where true b true e = and_right (true && not b) false e
 sets_where true b false e = refl
 sets_where false b c e = and_left false (not c) e
 
-upsert_made : (n : ConflictTarget) → (v3 : List Assignment) → (v4 : Option Tree) → Conflict
-upsert_made n v3 v4 = conflict_of.Update (record { target = n; sets = v3; condition = v4 })
+-- UPDATE SET sets [WHERE expr], behind DO
+upsert_made : (target : ConflictTarget) → (assigned : List Assignment) → (filter : Option Tree) → Conflict
+upsert_made target assigned filter =
+    conflict_of.Update (record { target = target; sets = assigned; condition = filter })
 
-upsert_4 : (n : ConflictTarget) → (v3 : List Assignment) → (v4 : Option Tree) → Lang Token Conflict
-upsert_4 n v3 v4 = gives (upsert_made n v3 v4)
+upsert_after_condition : (target : ConflictTarget) → (assigned : List Assignment) → (filter : Option Tree) →
+    Lang Token Conflict
+upsert_after_condition target assigned filter = gives (upsert_made target assigned filter)
 
-spelled_upsert_4 : (n : ConflictTarget) → (v3 : List Assignment) → (v4 : Option Tree) → Spelled (upsert_4 n v3 v4)
-unfolding upsert_4
-spelled_upsert_4 n v3 v4 = spelled_gives (upsert_made n v3 v4)
+spelled_upsert_after_condition : (target : ConflictTarget) → (assigned : List Assignment) → (filter : Option Tree) →
+    Spelled (upsert_after_condition target assigned filter)
+unfolding upsert_after_condition
+spelled_upsert_after_condition target assigned filter = spelled_gives (upsert_made target assigned filter)
 
-upsert_3 : (n : ConflictTarget) → (v3 : List Assignment) → Lang Token Conflict
-upsert_3 n v3 = bind condition (upsert_4 n v3)
+upsert_after_sets : (target : ConflictTarget) → (assigned : List Assignment) → Lang Token Conflict
+upsert_after_sets target assigned = bind condition (upsert_after_condition target assigned)
 
-spelled_upsert_3 : (n : ConflictTarget) → (v3 : List Assignment) → Spelled (upsert_3 n v3)
-unfolding upsert_3
-spelled_upsert_3 n v3 = spelled_bind condition (upsert_4 n v3) spelled_where (λ u. spelled_upsert_4 n v3 u)
+spelled_upsert_after_sets : (target : ConflictTarget) → (assigned : List Assignment) →
+    Spelled (upsert_after_sets target assigned)
+unfolding upsert_after_sets
+spelled_upsert_after_sets target assigned =
+    spelled_bind condition (upsert_after_condition target assigned) spelled_where
+    (λ filter. spelled_upsert_after_condition target assigned filter)
 
-upsert_2 : (n : ConflictTarget) → Lang Token Conflict
-upsert_2 n = bind sets (upsert_3 n)
+upsert_after_set : (target : ConflictTarget) → Lang Token Conflict
+upsert_after_set target = bind sets (upsert_after_sets target)
 
-spelled_upsert_2 : (n : ConflictTarget) → Spelled (upsert_2 n)
-unfolding upsert_2
-spelled_upsert_2 n = spelled_bind sets (upsert_3 n) spelled_sets (λ u. spelled_upsert_3 n u)
+spelled_upsert_after_set : (target : ConflictTarget) → Spelled (upsert_after_set target)
+unfolding upsert_after_set
+spelled_upsert_after_set target =
+    spelled_bind sets (upsert_after_sets target) spelled_sets (λ assigned. spelled_upsert_after_sets target assigned)
 
-upsert_1 : (n : ConflictTarget) → Lang Token Conflict
-upsert_1 n = token (t.Keyword k.Set) (upsert_2 n)
+upsert_after_update : (target : ConflictTarget) → Lang Token Conflict
+upsert_after_update target = token (t.Keyword k.Set) (upsert_after_set target)
 
-spelled_upsert_1 : (n : ConflictTarget) → Spelled (upsert_1 n)
-unfolding upsert_1
-spelled_upsert_1 n = spelled_token (t.Keyword k.Set) (upsert_2 n) (spelled_upsert_2 n)
+spelled_upsert_after_update : (target : ConflictTarget) → Spelled (upsert_after_update target)
+unfolding upsert_after_update
+spelled_upsert_after_update target =
+    spelled_token (t.Keyword k.Set) (upsert_after_set target) (spelled_upsert_after_set target)
 
-pub spelled_upsert : (n : ConflictTarget) → Spelled (upsert n)
-unfolding upsert upsert_1 upsert_2 upsert_3 upsert_4 upsert_made
-spelled_upsert n = spelled_token (t.Keyword k.Update) (upsert_1 n) (spelled_upsert_1 n)
+pub spelled_upsert : (target : ConflictTarget) → Spelled (upsert target)
+unfolding upsert upsert_after_update upsert_after_set upsert_after_sets upsert_after_condition upsert_made
+spelled_upsert target =
+    spelled_token (t.Keyword k.Update) (upsert_after_update target) (spelled_upsert_after_update target)
 
 behind_conflict_behind_sets : (o : Option Token) → behind_conflict o ≡ true → behind_sets o ≡ true
 unfolding behind_conflict
 behind_conflict_behind_sets o e = and_left (behind_sets o) (not (is_word k.Where o)) e
 
-starts_upsert_3 : (n : ConflictTarget) → (v3 : List Assignment) → Starts behind_sets (upsert_3 n v3) behind_conflict
-unfolding upsert_1 upsert_2 upsert_3 upsert_4 upsert_made
-starts_upsert_3 n v3 =
-    starts_bind behind_sets behind_sets behind_conflict condition (upsert_4 n v3)
-    (starts_where behind_sets where_behind_sets) (λ v4. starts_gives behind_sets behind_conflict (upsert_made n v3 v4)
-    (behind_conflict_behind_sets))
+starts_upsert_after_sets : (target : ConflictTarget) → (assigned : List Assignment) →
+    Starts behind_sets (upsert_after_sets target assigned) behind_conflict
+unfolding upsert_after_update upsert_after_set upsert_after_sets upsert_after_condition upsert_made
+starts_upsert_after_sets target assigned =
+    starts_bind behind_sets behind_sets behind_conflict condition (upsert_after_condition target assigned)
+    (starts_where behind_sets where_behind_sets)
+    (λ filter. starts_gives behind_sets behind_conflict
+    (upsert_made target assigned filter) behind_conflict_behind_sets)
 
 behind_conflict_behind_condition : (o : Option Token) → behind_conflict o ≡ true → behind_condition o ≡ true
 unfolding behind_conflict behind_sets behind_list behind_condition
 behind_conflict_behind_condition o e = sets_where (behind_expr o) (is_comma o) (is_word k.Where o) e
 
-starts_upsert_4 : (n : ConflictTarget) → (v3 : List Assignment) → (v4 : Option Tree) →
-    Starts behind_condition (upsert_4 n v3 v4) behind_conflict
-unfolding upsert_1 upsert_2 upsert_3 upsert_4 upsert_made
-starts_upsert_4 n v3 v4 =
-    starts_gives behind_condition behind_conflict (upsert_made n v3 v4) (behind_conflict_behind_condition)
+starts_upsert_after_condition : (target : ConflictTarget) → (assigned : List Assignment) → (filter : Option Tree) →
+    Starts behind_condition (upsert_after_condition target assigned filter) behind_conflict
+unfolding upsert_after_update upsert_after_set upsert_after_sets upsert_after_condition upsert_made
+starts_upsert_after_condition target assigned filter =
+    starts_gives behind_condition behind_conflict (upsert_made target assigned filter) behind_conflict_behind_condition
 
-pub upsert_at_0 : (n : ConflictTarget) (xs : List Token) (l : ℕ) → Misses (t.Keyword k.Update) xs →
+pub upsert_no_update : (target : ConflictTarget) (xs : List Token) (l : ℕ) → Misses (t.Keyword k.Update) xs →
     l ≡ length xs →
-    Reads (upsert n) behind_conflict xs (failed (Syntax l))
-unfolding upsert upsert_1 upsert_2 upsert_3 upsert_4 upsert_made
-upsert_at_0 n xs l e1 q = word_missed (t.Keyword k.Update) (upsert_1 n) behind_conflict xs l e1 q (spelled_upsert_1 n)
+    Reads (upsert target) behind_conflict xs (failed (Syntax l))
+unfolding upsert upsert_after_update upsert_after_set upsert_after_sets upsert_after_condition upsert_made
+upsert_no_update target xs l miss q =
+    word_missed (t.Keyword k.Update) (upsert_after_update target) behind_conflict xs l miss q
+    (spelled_upsert_after_update target)
 
-pub upsert_at_1 : (n : ConflictTarget) (xs y1 : List Token) (l : ℕ) → xs ≡ (t.Keyword k.Update) ∷ y1 →
-    Misses (t.Keyword k.Set) y1 →
-    l ≡ length y1 →
-    Reads (upsert n) behind_conflict xs (failed (Syntax l))
-unfolding upsert upsert_1 upsert_2 upsert_3 upsert_4 upsert_made
-upsert_at_1 n xs y1 l e1 e2 q = word_read (t.Keyword k.Update) (upsert_1 n) behind_conflict xs y1 (failed (Syntax l)) e1
-    (word_missed (t.Keyword k.Set) (upsert_2 n) behind_conflict y1 l e2 q (spelled_upsert_2 n))
+pub upsert_no_set : (target : ConflictTarget) (xs after_update : List Token) (l : ℕ) →
+    xs ≡ (t.Keyword k.Update) ∷ after_update →
+    Misses (t.Keyword k.Set) after_update →
+    l ≡ length after_update →
+    Reads (upsert target) behind_conflict xs (failed (Syntax l))
+unfolding upsert upsert_after_update upsert_after_set upsert_after_sets upsert_after_condition upsert_made
+upsert_no_set target xs after_update l at_update miss q =
+    word_read (t.Keyword k.Update) (upsert_after_update target) behind_conflict xs after_update (failed (Syntax l))
+    at_update
+    (word_missed (t.Keyword k.Set) (upsert_after_set target) behind_conflict after_update l miss q
+    (spelled_upsert_after_set target))
 
-pub upsert_at_2 : (n : ConflictTarget) (xs y1 y2 : List Token) (f : Fault) → xs ≡ (t.Keyword k.Update) ∷ y1 →
-    y1 ≡ (t.Keyword k.Set) ∷ y2 →
-    Reads sets behind_sets y2 (failed f) →
-    Reads (upsert n) behind_conflict xs (failed f)
-unfolding upsert upsert_1 upsert_2 upsert_3 upsert_4 upsert_made
-upsert_at_2 n xs y1 y2 f e1 e2 e3 = word_read (t.Keyword k.Update) (upsert_1 n) behind_conflict xs y1 (failed f) e1
-    (word_read (t.Keyword k.Set) (upsert_2 n) behind_conflict y1 y2 (failed f) e2
-    (reads_bind_failed sets (upsert_3 n) behind_sets behind_conflict y2 f e3 (λ v3. starts_upsert_3 n v3)
-    (λ v3. spelled_upsert_3 n v3)))
+pub upsert_sets_failed : (target : ConflictTarget) (xs after_update after_set : List Token) (f : Fault) →
+    xs ≡ (t.Keyword k.Update) ∷ after_update →
+    after_update ≡ (t.Keyword k.Set) ∷ after_set →
+    Reads sets behind_sets after_set (failed f) →
+    Reads (upsert target) behind_conflict xs (failed f)
+unfolding upsert upsert_after_update upsert_after_set upsert_after_sets upsert_after_condition upsert_made
+upsert_sets_failed target xs after_update after_set f at_update at_set fails =
+    word_read (t.Keyword k.Update) (upsert_after_update target) behind_conflict xs after_update (failed f) at_update
+    (word_read (t.Keyword k.Set) (upsert_after_set target) behind_conflict after_update after_set (failed f) at_set
+    (reads_bind_failed sets (upsert_after_sets target) behind_sets behind_conflict after_set f fails
+    (λ assigned. starts_upsert_after_sets target assigned) (λ assigned. spelled_upsert_after_sets target assigned)))
 
-pub upsert_at_3 : (n : ConflictTarget) (xs y1 y2 y3 : List Token) (v3 : List Assignment) (f : Fault) →
-    xs ≡ (t.Keyword k.Update) ∷ y1 →
-    y1 ≡ (t.Keyword k.Set) ∷ y2 →
-    Reads sets behind_sets y2 (read v3 y3) →
-    Reads condition behind_condition y3 (failed f) →
-    Reads (upsert n) behind_conflict xs (failed f)
-unfolding upsert upsert_1 upsert_2 upsert_3 upsert_4 upsert_made
-upsert_at_3 n xs y1 y2 y3 v3 f e1 e2 e3 e4 =
-    word_read (t.Keyword k.Update) (upsert_1 n) behind_conflict xs y1 (failed f) e1
-    (word_read (t.Keyword k.Set) (upsert_2 n) behind_conflict y1 y2 (failed f) e2
-    (part_read sets (upsert_3 n) behind_sets behind_conflict y2 y3 v3 (failed f) e3 (λ v3. starts_upsert_3 n v3)
-    (reads_bind_failed condition (upsert_4 n v3) behind_condition behind_conflict y3 f e4
-    (λ v4. starts_upsert_4 n v3 v4) (λ v4. spelled_upsert_4 n v3 v4))))
+pub upsert_condition_failed : (target : ConflictTarget) (xs after_update after_set after_sets : List Token)
+    (assigned : List Assignment) (f : Fault) →
+    xs ≡ (t.Keyword k.Update) ∷ after_update →
+    after_update ≡ (t.Keyword k.Set) ∷ after_set →
+    Reads sets behind_sets after_set (read assigned after_sets) →
+    Reads condition behind_condition after_sets (failed f) →
+    Reads (upsert target) behind_conflict xs (failed f)
+unfolding upsert upsert_after_update upsert_after_set upsert_after_sets upsert_after_condition upsert_made
+upsert_condition_failed target xs after_update after_set after_sets assigned f at_update at_set reads_sets fails =
+    word_read (t.Keyword k.Update) (upsert_after_update target) behind_conflict xs after_update (failed f) at_update
+    (word_read (t.Keyword k.Set) (upsert_after_set target) behind_conflict after_update after_set (failed f) at_set
+    (part_read sets (upsert_after_sets target) behind_sets behind_conflict after_set after_sets assigned (failed f)
+    reads_sets (λ assigned. starts_upsert_after_sets target assigned)
+    (reads_bind_failed condition (upsert_after_condition target assigned) behind_condition behind_conflict after_sets f
+    fails (λ filter. starts_upsert_after_condition target assigned filter)
+    (λ filter. spelled_upsert_after_condition target assigned filter))))
 
-pub upsert_at_4 : (n : ConflictTarget) (xs y1 y2 y3 y4 : List Token) (v3 : List Assignment) (v4 : Option Tree) →
-    xs ≡ (t.Keyword k.Update) ∷ y1 →
-    y1 ≡ (t.Keyword k.Set) ∷ y2 →
-    Reads sets behind_sets y2 (read v3 y3) →
-    Reads condition behind_condition y3 (read v4 y4) →
-    Reads (upsert n) behind_conflict xs (read (conflict_of.Update (record {
+pub upsert_whole : (target : ConflictTarget) (xs after_update after_set after_sets rest : List Token)
+    (assigned : List Assignment) (filter : Option Tree) →
+    xs ≡ (t.Keyword k.Update) ∷ after_update →
+    after_update ≡ (t.Keyword k.Set) ∷ after_set →
+    Reads sets behind_sets after_set (read assigned after_sets) →
+    Reads condition behind_condition after_sets (read filter rest) →
+    Reads (upsert target) behind_conflict xs (read (conflict_of.Update (record {
       target =
-          n;
-      sets = v3;
-      condition = v4;
-    })) y4)
-unfolding upsert upsert_1 upsert_2 upsert_3 upsert_4 upsert_made
-upsert_at_4 n xs y1 y2 y3 y4 v3 v4 e1 e2 e3 e4 =
-    word_read (t.Keyword k.Update) (upsert_1 n) behind_conflict xs y1
-    (read (conflict_of.Update (record { target = n; sets = v3; condition = v4 })) y4) e1
-    (word_read (t.Keyword k.Set) (upsert_2 n) behind_conflict y1 y2
-    (read (conflict_of.Update (record { target = n; sets = v3; condition = v4 })) y4) e2
-    (part_read sets (upsert_3 n) behind_sets behind_conflict y2 y3 v3
-    (read (conflict_of.Update (record { target = n; sets = v3; condition = v4 })) y4) e3 (λ v3. starts_upsert_3 n v3)
-    (part_read condition (upsert_4 n v3) behind_condition behind_conflict y3 y4 v4
-    (read (conflict_of.Update (record { target = n; sets = v3; condition = v4 })) y4) e4 (λ v4. starts_upsert_4 n v3 v4)
-    (reads_gives (upsert_made n v3 v4) (upsert_made n v3 v4) behind_conflict y4 refl))))
+          target;
+      sets = assigned;
+      condition = filter;
+    })) rest)
+unfolding upsert upsert_after_update upsert_after_set upsert_after_sets upsert_after_condition upsert_made
+upsert_whole target xs after_update after_set after_sets rest assigned filter at_update at_set reads_sets
+    reads_condition =
+    word_read (t.Keyword k.Update) (upsert_after_update target) behind_conflict xs after_update
+    (read (upsert_made target assigned filter) rest) at_update
+    (word_read (t.Keyword k.Set) (upsert_after_set target) behind_conflict after_update after_set
+    (read (upsert_made target assigned filter) rest) at_set
+    (part_read sets (upsert_after_sets target) behind_sets behind_conflict after_set after_sets assigned
+    (read (upsert_made target assigned filter) rest) reads_sets (λ assigned. starts_upsert_after_sets target assigned)
+    (part_read condition (upsert_after_condition target assigned) behind_condition behind_conflict after_sets rest
+    filter (read (upsert_made target assigned filter) rest) reads_condition
+    (λ filter. starts_upsert_after_condition target assigned filter)
+    (reads_gives (upsert_made target assigned filter) (upsert_made target assigned filter) behind_conflict rest refl))))
 
 act_nothing : (c : Conflict) (xs ys : List Token) → xs ≡ t.Keyword k.Nothing ∷ ys →
     Reads (word k.Nothing (gives c)) behind_conflict xs (read c ys)
@@ -516,8 +559,8 @@ act_nothing c xs ys e =
 
 bars_upsert : (c : ConflictTarget) (xs : List Token) → (next xs ≡ Some (t.Keyword k.Update) → ⊥) →
     Bars (upsert c) behind_conflict 1 xs
-unfolding upsert upsert_1 upsert_2 upsert_3 upsert_4 upsert_made
-bars_upsert c xs h = bars_token behind_conflict (t.Keyword k.Update) (upsert_1 c) 0 xs h
+unfolding upsert upsert_after_update upsert_after_set upsert_after_sets upsert_after_condition upsert_made
+bars_upsert c xs h = bars_token behind_conflict (t.Keyword k.Update) (upsert_after_update c) 0 xs h
 
 pub act_nothing_read : (target : Option ConflictTarget) (xs ys : List Token) → xs ≡ t.Keyword k.Nothing ∷ ys →
     Reads (conflict_act target) behind_conflict xs (read (conflict_of.Nothing target) ys)
@@ -619,59 +662,77 @@ pub conflict_none : (xs : List Token) → Misses (t.Keyword k.On) xs →
 unfolding conflict target_then act_behind
 conflict_none xs miss = none_read (t.Keyword k.On) (word k.Conflict target_then) behind_on_conflict xs miss
 
-pub conflict_no_word : (xs ys : List Token) (l : ℕ) → xs ≡ t.Keyword k.On ∷ ys → Misses (t.Keyword k.Conflict) ys →
-    l ≡ length ys →
+pub conflict_no_word : (xs after_on : List Token) (l : ℕ) →
+    xs ≡ t.Keyword k.On ∷ after_on →
+    Misses (t.Keyword k.Conflict) after_on →
+    l ≡ length after_on →
     Reads (optional conflict) behind_on_conflict xs (failed (Syntax l))
 unfolding conflict_tail
-conflict_no_word xs ys l e miss q =
-    optional_failed xs ys (Syntax l) e (word_missed
-    (t.Keyword k.Conflict) target_then behind_conflict ys l miss q spelled_target_then)
+conflict_no_word xs after_on l at_on miss q =
+    optional_failed xs after_on (Syntax l) at_on
+    (word_missed (t.Keyword k.Conflict) target_then behind_conflict after_on l miss q spelled_target_then)
 
-pub conflict_no_target : (xs ys zs : List Token) (f : Fault) → xs ≡ t.Keyword k.On ∷ ys →
-    ys ≡ t.Keyword k.Conflict ∷ zs →
-    Reads (optional conflict_target) behind_target zs (failed f) → Reads (optional conflict) behind_on_conflict xs
-    (failed f)
+pub conflict_no_target : (xs after_on after_conflict : List Token) (f : Fault) →
+    xs ≡ t.Keyword k.On ∷ after_on →
+    after_on ≡ t.Keyword k.Conflict ∷ after_conflict →
+    Reads (optional conflict_target) behind_target after_conflict (failed f) →
+    Reads (optional conflict) behind_on_conflict xs (failed f)
 unfolding conflict_tail target_then
-conflict_no_target xs ys zs f e i r =
-    optional_failed xs ys f e (word_read (t.Keyword k.Conflict) target_then behind_conflict ys zs (failed f) i
-    (reads_bind_failed
-    (optional conflict_target) act_behind behind_target behind_conflict zs f r starts_act_behind spelled_act_behind))
+conflict_no_target xs after_on after_conflict f at_on at_conflict fails =
+    optional_failed xs after_on f at_on
+    (word_read (t.Keyword k.Conflict) target_then behind_conflict after_on after_conflict (failed f) at_conflict
+    (reads_bind_failed (optional conflict_target) act_behind behind_target behind_conflict after_conflict f fails
+    starts_act_behind spelled_act_behind))
 
-pub conflict_no_do : (xs ys zs ws : List Token) (v : Option ConflictTarget) (l : ℕ) → xs ≡ t.Keyword k.On ∷ ys →
-    ys ≡ t.Keyword k.Conflict ∷ zs →
-    Reads (optional conflict_target) behind_target zs (read v ws) → Misses (t.Keyword k.Do) ws → l ≡ length ws → Reads
-    (optional conflict) behind_on_conflict xs (failed (Syntax l))
+pub conflict_no_do : (xs after_on after_conflict after_target : List Token) (target : Option ConflictTarget) (l : ℕ) →
+    xs ≡ t.Keyword k.On ∷ after_on →
+    after_on ≡ t.Keyword k.Conflict ∷ after_conflict →
+    Reads (optional conflict_target) behind_target after_conflict (read target after_target) →
+    Misses (t.Keyword k.Do) after_target →
+    l ≡ length after_target →
+    Reads (optional conflict) behind_on_conflict xs (failed (Syntax l))
 unfolding conflict_tail target_then act_behind
-conflict_no_do xs ys zs ws v l e i r miss q =
-    optional_failed xs ys (Syntax l) e (word_read (t.Keyword k.Conflict) target_then behind_conflict ys zs
-    (failed (Syntax l)) i
-    (part_read (optional conflict_target) act_behind behind_target behind_conflict zs ws v
-    (failed (Syntax l)) r starts_act_behind
-    (word_missed (t.Keyword k.Do) (conflict_act v) behind_conflict ws l miss q (spelled_act v))))
+conflict_no_do xs after_on after_conflict after_target target l at_on at_conflict reads_target miss q =
+    optional_failed xs after_on (Syntax l) at_on
+    (word_read (t.Keyword k.Conflict) target_then behind_conflict after_on after_conflict (failed (Syntax l))
+    at_conflict
+    (part_read (optional conflict_target) act_behind behind_target behind_conflict after_conflict after_target target
+    (failed (Syntax l)) reads_target starts_act_behind
+    (word_missed (t.Keyword k.Do) (conflict_act target) behind_conflict after_target l miss q (spelled_act target))))
 
-pub conflict_no_act : (xs ys zs ws us : List Token) (v : Option ConflictTarget) (f : Fault) → xs ≡ t.Keyword k.On ∷ ys →
-    ys ≡ t.Keyword k.Conflict ∷ zs →
-    Reads (optional conflict_target) behind_target zs (read v ws) → ws ≡ t.Keyword k.Do ∷ us → Reads
-    (conflict_act v) behind_conflict us (failed f) →
+pub conflict_no_act : (xs after_on after_conflict after_target after_do : List Token) (target : Option ConflictTarget)
+    (f : Fault) →
+    xs ≡ t.Keyword k.On ∷ after_on →
+    after_on ≡ t.Keyword k.Conflict ∷ after_conflict →
+    Reads (optional conflict_target) behind_target after_conflict (read target after_target) →
+    after_target ≡ t.Keyword k.Do ∷ after_do →
+    Reads (conflict_act target) behind_conflict after_do (failed f) →
     Reads (optional conflict) behind_on_conflict xs (failed f)
 unfolding conflict_tail target_then act_behind
-conflict_no_act xs ys zs ws us v f e i r d q =
-    optional_failed xs ys f e (word_read (t.Keyword k.Conflict) target_then behind_conflict ys zs (failed f) i
-    (part_read (optional conflict_target) act_behind behind_target behind_conflict zs ws v
-    (failed f) r starts_act_behind
-    (word_read (t.Keyword k.Do) (conflict_act v) behind_conflict ws us (failed f) d q)))
+conflict_no_act xs after_on after_conflict after_target after_do target f at_on at_conflict reads_target at_do fails =
+    optional_failed xs after_on f at_on
+    (word_read (t.Keyword k.Conflict) target_then behind_conflict after_on after_conflict (failed f) at_conflict
+    (part_read (optional conflict_target) act_behind behind_target behind_conflict after_conflict after_target target
+    (failed f) reads_target starts_act_behind
+    (word_read (t.Keyword k.Do) (conflict_act target) behind_conflict after_target after_do (failed f) at_do fails)))
 
-pub conflict_read : (xs ys zs ws us ts : List Token) (v : Option ConflictTarget) (c : Conflict) →
-    xs ≡ t.Keyword k.On ∷ ys → ys ≡ t.Keyword k.Conflict ∷ zs →
-    Reads (optional conflict_target) behind_target zs (read v ws) → ws ≡ t.Keyword k.Do ∷ us → Reads
-    (conflict_act v) behind_conflict us (read c ts) →
-    Reads (optional conflict) behind_on_conflict xs (read (Some c) ts)
+pub conflict_read : (xs after_on after_conflict after_target after_do rest : List Token)
+    (target : Option ConflictTarget) (clause : Conflict) →
+    xs ≡ t.Keyword k.On ∷ after_on →
+    after_on ≡ t.Keyword k.Conflict ∷ after_conflict →
+    Reads (optional conflict_target) behind_target after_conflict (read target after_target) →
+    after_target ≡ t.Keyword k.Do ∷ after_do →
+    Reads (conflict_act target) behind_conflict after_do (read clause rest) →
+    Reads (optional conflict) behind_on_conflict xs (read (Some clause) rest)
 unfolding conflict_tail target_then act_behind
-conflict_read xs ys zs ws us ts v c e i r d q =
-    optional_read xs ys ts c e (word_read (t.Keyword k.Conflict) target_then behind_conflict ys zs (read c ts) i
-    (part_read (optional conflict_target) act_behind behind_target behind_conflict zs ws v
-    (read c ts) r starts_act_behind
-    (word_read (t.Keyword k.Do) (conflict_act v) behind_conflict ws us (read c ts) d q)))
+conflict_read xs after_on after_conflict after_target after_do rest target clause at_on at_conflict reads_target at_do
+    reads_act =
+    optional_read xs after_on rest clause at_on
+    (word_read (t.Keyword k.Conflict) target_then behind_conflict after_on after_conflict (read clause rest) at_conflict
+    (part_read (optional conflict_target) act_behind behind_target behind_conflict after_conflict after_target target
+    (read clause rest) reads_target starts_act_behind
+    (word_read (t.Keyword k.Do) (conflict_act target) behind_conflict after_target after_do (read clause rest) at_do
+    reads_act)))
 
 starts_conflict : (b : Option Token → Bool) → b (Some (t.Keyword k.On)) ≡ true → Starts b (optional conflict) b
 unfolding conflict target_then act_behind
@@ -693,250 +754,321 @@ starts_rows_of : (b g : Option Token → Bool) → b (Some (t.Keyword k.Values))
     b (Some (t.Keyword k.Select)) ≡ true → Starts b rows g
 starts_rows_of b g h i = starts_rows b h i g
 
-insert_made : (v2 : List ℕ) → (v3 : Option (List ℕ)) → (v4 : List (List ℕ)) → (v5 : Rows) → (v6 : Option Conflict) →
-    (v7 : List Item) → Insert
-insert_made v2 v3 v4 v5 v6 v7 =
-    record { table = v2; alias = v3; columns = v4; rows = v5; conflict = v6; returning = v7 }
+-- INTO name [AS name] ["(" names ")"] rows [ON CONFLICT ..] [RETURNING items], behind INSERT
+insert_made : (table : List ℕ) → (alias : Option (List ℕ)) → (listed : List (List ℕ)) → (proposed : Rows) →
+    (clause : Option Conflict) → (returned : List Item) → Insert
+insert_made table alias listed proposed clause returned =
+    record { table = table; alias = alias; columns = listed; rows = proposed; conflict = clause; returning = returned }
 
-insert_7 : (v2 : List ℕ) → (v3 : Option (List ℕ)) → (v4 : List (List ℕ)) → (v5 : Rows) → (v6 : Option Conflict) →
-    (v7 : List Item) → Lang Token Insert
-insert_7 v2 v3 v4 v5 v6 v7 = gives (insert_made v2 v3 v4 v5 v6 v7)
+insert_after_returning : (table : List ℕ) → (alias : Option (List ℕ)) → (listed : List (List ℕ)) → (proposed : Rows) →
+    (clause : Option Conflict) → (returned : List Item) → Lang Token Insert
+insert_after_returning table alias listed proposed clause returned =
+    gives (insert_made table alias listed proposed clause returned)
 
-spelled_insert_7 : (v2 : List ℕ) → (v3 : Option (List ℕ)) → (v4 : List (List ℕ)) → (v5 : Rows) →
-    (v6 : Option Conflict) → (v7 : List Item) → Spelled (insert_7 v2 v3 v4 v5 v6 v7)
-unfolding insert_7
-spelled_insert_7 v2 v3 v4 v5 v6 v7 = spelled_gives (insert_made v2 v3 v4 v5 v6 v7)
+spelled_insert_after_returning : (table : List ℕ) → (alias : Option (List ℕ)) → (listed : List (List ℕ)) →
+    (proposed : Rows) → (clause : Option Conflict) → (returned : List Item) →
+    Spelled (insert_after_returning table alias listed proposed clause returned)
+unfolding insert_after_returning
+spelled_insert_after_returning table alias listed proposed clause returned =
+    spelled_gives (insert_made table alias listed proposed clause returned)
 
-insert_6 : (v2 : List ℕ) → (v3 : Option (List ℕ)) → (v4 : List (List ℕ)) → (v5 : Rows) → (v6 : Option Conflict) →
+insert_after_conflict : (table : List ℕ) → (alias : Option (List ℕ)) → (listed : List (List ℕ)) → (proposed : Rows) →
+    (clause : Option Conflict) → Lang Token Insert
+insert_after_conflict table alias listed proposed clause =
+    bind returning (insert_after_returning table alias listed proposed clause)
+
+spelled_insert_after_conflict : (table : List ℕ) → (alias : Option (List ℕ)) → (listed : List (List ℕ)) →
+    (proposed : Rows) → (clause : Option Conflict) → Spelled (insert_after_conflict table alias listed proposed clause)
+unfolding insert_after_conflict
+spelled_insert_after_conflict table alias listed proposed clause =
+    spelled_bind returning (insert_after_returning table alias listed proposed clause) spelled_returning
+    (λ returned. spelled_insert_after_returning table alias listed proposed clause returned)
+
+insert_after_rows : (table : List ℕ) → (alias : Option (List ℕ)) → (listed : List (List ℕ)) → (proposed : Rows) →
     Lang Token Insert
-insert_6 v2 v3 v4 v5 v6 = bind returning (insert_7 v2 v3 v4 v5 v6)
+insert_after_rows table alias listed proposed =
+    bind (optional conflict) (insert_after_conflict table alias listed proposed)
 
-spelled_insert_6 : (v2 : List ℕ) → (v3 : Option (List ℕ)) → (v4 : List (List ℕ)) → (v5 : Rows) →
-    (v6 : Option Conflict) → Spelled (insert_6 v2 v3 v4 v5 v6)
-unfolding insert_6
-spelled_insert_6 v2 v3 v4 v5 v6 =
-    spelled_bind returning (insert_7 v2 v3 v4 v5 v6) spelled_returning (λ u. spelled_insert_7 v2 v3 v4 v5 v6 u)
+spelled_insert_after_rows : (table : List ℕ) → (alias : Option (List ℕ)) → (listed : List (List ℕ)) →
+    (proposed : Rows) → Spelled (insert_after_rows table alias listed proposed)
+unfolding insert_after_rows
+spelled_insert_after_rows table alias listed proposed =
+    spelled_bind (optional conflict) (insert_after_conflict table alias listed proposed) (spelled_optional conflict)
+    (λ clause. spelled_insert_after_conflict table alias listed proposed clause)
 
-insert_5 : (v2 : List ℕ) → (v3 : Option (List ℕ)) → (v4 : List (List ℕ)) → (v5 : Rows) → Lang Token Insert
-insert_5 v2 v3 v4 v5 = bind (optional conflict) (insert_6 v2 v3 v4 v5)
+insert_after_columns : (table : List ℕ) → (alias : Option (List ℕ)) → (listed : List (List ℕ)) → Lang Token Insert
+insert_after_columns table alias listed = bind rows (insert_after_rows table alias listed)
 
-spelled_insert_5 : (v2 : List ℕ) → (v3 : Option (List ℕ)) → (v4 : List (List ℕ)) → (v5 : Rows) →
-    Spelled (insert_5 v2 v3 v4 v5)
-unfolding insert_5
-spelled_insert_5 v2 v3 v4 v5 =
-    spelled_bind (optional conflict) (insert_6 v2 v3 v4 v5) (spelled_optional conflict)
-    (λ u. spelled_insert_6 v2 v3 v4 v5 u)
+spelled_insert_after_columns : (table : List ℕ) → (alias : Option (List ℕ)) → (listed : List (List ℕ)) →
+    Spelled (insert_after_columns table alias listed)
+unfolding insert_after_columns
+spelled_insert_after_columns table alias listed =
+    spelled_bind rows (insert_after_rows table alias listed) spelled_rows
+    (λ proposed. spelled_insert_after_rows table alias listed proposed)
 
-insert_4 : (v2 : List ℕ) → (v3 : Option (List ℕ)) → (v4 : List (List ℕ)) → Lang Token Insert
-insert_4 v2 v3 v4 = bind rows (insert_5 v2 v3 v4)
+insert_after_alias : (table : List ℕ) → (alias : Option (List ℕ)) → Lang Token Insert
+insert_after_alias table alias = bind columns (insert_after_columns table alias)
 
-spelled_insert_4 : (v2 : List ℕ) → (v3 : Option (List ℕ)) → (v4 : List (List ℕ)) → Spelled (insert_4 v2 v3 v4)
-unfolding insert_4
-spelled_insert_4 v2 v3 v4 = spelled_bind rows (insert_5 v2 v3 v4) spelled_rows (λ u. spelled_insert_5 v2 v3 v4 u)
+spelled_insert_after_alias : (table : List ℕ) → (alias : Option (List ℕ)) → Spelled (insert_after_alias table alias)
+unfolding insert_after_alias
+spelled_insert_after_alias table alias =
+    spelled_bind columns (insert_after_columns table alias) spelled_columns
+    (λ listed. spelled_insert_after_columns table alias listed)
 
-insert_3 : (v2 : List ℕ) → (v3 : Option (List ℕ)) → Lang Token Insert
-insert_3 v2 v3 = bind columns (insert_4 v2 v3)
+insert_after_table : (table : List ℕ) → Lang Token Insert
+insert_after_table table = bind as_name (insert_after_alias table)
 
-spelled_insert_3 : (v2 : List ℕ) → (v3 : Option (List ℕ)) → Spelled (insert_3 v2 v3)
-unfolding insert_3
-spelled_insert_3 v2 v3 = spelled_bind columns (insert_4 v2 v3) spelled_columns (λ u. spelled_insert_4 v2 v3 u)
+spelled_insert_after_table : (table : List ℕ) → Spelled (insert_after_table table)
+unfolding insert_after_table
+spelled_insert_after_table table =
+    spelled_bind as_name (insert_after_alias table) spelled_as_name (λ alias. spelled_insert_after_alias table alias)
 
-insert_2 : (v2 : List ℕ) → Lang Token Insert
-insert_2 v2 = bind as_name (insert_3 v2)
+insert_after_into : Lang Token Insert
+insert_after_into = bind name insert_after_table
 
-spelled_insert_2 : (v2 : List ℕ) → Spelled (insert_2 v2)
-unfolding insert_2
-spelled_insert_2 v2 = spelled_bind as_name (insert_3 v2) spelled_as_name (λ u. spelled_insert_3 v2 u)
+spelled_insert_after_into : Spelled insert_after_into
+unfolding insert_after_into
+spelled_insert_after_into =
+    spelled_bind name insert_after_table spelled_name (λ table. spelled_insert_after_table table)
 
-insert_1 : Lang Token Insert
-insert_1 = bind name (insert_2)
+pub spelled_insert : Spelled insert
+unfolding insert insert_after_into insert_after_table insert_after_alias insert_after_columns insert_after_rows
+    insert_after_conflict insert_after_returning insert_made
+spelled_insert = spelled_token (t.Keyword k.Into) insert_after_into spelled_insert_after_into
 
-spelled_insert_1 : Spelled (insert_1)
-unfolding insert_1
-spelled_insert_1 = spelled_bind name (insert_2) spelled_name (λ u. spelled_insert_2 u)
+starts_insert_after_table : (table : List ℕ) → Starts any (insert_after_table table) behind_statement
+unfolding insert_after_into insert_after_table insert_after_alias insert_after_columns insert_after_rows
+    insert_after_conflict insert_after_returning insert_made
+starts_insert_after_table table = starts_any (insert_after_table table) behind_statement
 
-pub spelled_insert : Spelled (insert)
-unfolding insert insert_1 insert_2 insert_3 insert_4 insert_5 insert_6 insert_7 insert_made
-spelled_insert = spelled_token (t.Keyword k.Into) (insert_1) (spelled_insert_1)
-
-starts_insert_2 : (v2 : List ℕ) → Starts any (insert_2 v2) behind_statement
-unfolding insert_1 insert_2 insert_3 insert_4 insert_5 insert_6 insert_7 insert_made
-starts_insert_2 v2 = starts_any (insert_2 v2) behind_statement
-
-starts_insert_3 : (v2 : List ℕ) → (v3 : Option (List ℕ)) → Starts behind_as (insert_3 v2 v3) behind_statement
-unfolding insert_1 insert_2 insert_3 insert_4 insert_5 insert_6 insert_7 insert_made
-starts_insert_3 v2 v3 =
-    starts_bind behind_as behind_as behind_statement columns (insert_4 v2 v3) (starts_columns behind_as open_behind_as)
-    (λ v4. starts_bind behind_as any behind_statement rows (insert_5 v2 v3 v4)
+starts_insert_after_alias : (table : List ℕ) → (alias : Option (List ℕ)) →
+    Starts behind_as (insert_after_alias table alias) behind_statement
+unfolding insert_after_into insert_after_table insert_after_alias insert_after_columns insert_after_rows
+    insert_after_conflict insert_after_returning insert_made
+starts_insert_after_alias table alias =
+    starts_bind behind_as behind_as behind_statement columns (insert_after_columns table alias)
+    (starts_columns behind_as open_behind_as)
+    (λ listed. starts_bind behind_as any behind_statement rows (insert_after_rows table alias listed)
     (starts_rows_of behind_as any values_behind_as select_behind_as)
-    (λ v5. starts_any (insert_5 v2 v3 v4 v5) behind_statement))
+    (λ proposed. starts_any (insert_after_rows table alias listed proposed) behind_statement))
 
-starts_insert_4 : (v2 : List ℕ) → (v3 : Option (List ℕ)) → (v4 : List (List ℕ)) →
-    Starts behind_columns (insert_4 v2 v3 v4) behind_statement
-unfolding insert_1 insert_2 insert_3 insert_4 insert_5 insert_6 insert_7 insert_made
-starts_insert_4 v2 v3 v4 =
-    starts_bind behind_columns any behind_statement rows (insert_5 v2 v3 v4)
+starts_insert_after_columns : (table : List ℕ) → (alias : Option (List ℕ)) → (listed : List (List ℕ)) →
+    Starts behind_columns (insert_after_columns table alias listed) behind_statement
+unfolding insert_after_into insert_after_table insert_after_alias insert_after_columns insert_after_rows
+    insert_after_conflict insert_after_returning insert_made
+starts_insert_after_columns table alias listed =
+    starts_bind behind_columns any behind_statement rows (insert_after_rows table alias listed)
     (starts_rows_of behind_columns any values_behind_columns select_behind_columns)
-    (λ v5. starts_any (insert_5 v2 v3 v4 v5) behind_statement)
+    (λ proposed. starts_any (insert_after_rows table alias listed proposed) behind_statement)
 
-starts_insert_5 : (v2 : List ℕ) → (v3 : Option (List ℕ)) → (v4 : List (List ℕ)) → (v5 : Rows) →
-    Starts behind_rows (insert_5 v2 v3 v4 v5) behind_statement
-unfolding insert_1 insert_2 insert_3 insert_4 insert_5 insert_6 insert_7 insert_made
-starts_insert_5 v2 v3 v4 v5 =
-    starts_bind behind_rows behind_rows behind_statement (optional conflict) (insert_6 v2 v3 v4 v5)
-    (starts_conflict behind_rows on_behind_rows) (λ v6. starts_bind behind_rows behind_rows behind_statement returning
-    (insert_7 v2 v3 v4 v5 v6) (starts_returning behind_rows returning_behind_rows)
-    (λ v7. starts_gives behind_rows behind_statement (insert_made v2 v3 v4 v5 v6 v7) (end_behind_rows)))
+starts_insert_after_rows : (table : List ℕ) → (alias : Option (List ℕ)) → (listed : List (List ℕ)) → (proposed : Rows) →
+    Starts behind_rows (insert_after_rows table alias listed proposed) behind_statement
+unfolding insert_after_into insert_after_table insert_after_alias insert_after_columns insert_after_rows
+    insert_after_conflict insert_after_returning insert_made
+starts_insert_after_rows table alias listed proposed =
+    starts_bind behind_rows behind_rows behind_statement (optional conflict)
+    (insert_after_conflict table alias listed proposed) (starts_conflict behind_rows on_behind_rows)
+    (λ clause. starts_bind behind_rows behind_rows behind_statement returning
+    (insert_after_returning table alias listed proposed clause) (starts_returning behind_rows returning_behind_rows)
+    (λ returned. starts_gives behind_rows behind_statement (insert_made table alias listed proposed clause returned)
+    end_behind_rows))
 
-starts_insert_6 : (v2 : List ℕ) → (v3 : Option (List ℕ)) → (v4 : List (List ℕ)) → (v5 : Rows) → (v6 : Option Conflict) →
-    Starts behind_on_conflict (insert_6 v2 v3 v4 v5 v6) behind_statement
-unfolding insert_1 insert_2 insert_3 insert_4 insert_5 insert_6 insert_7 insert_made
-starts_insert_6 v2 v3 v4 v5 v6 =
-    starts_bind behind_on_conflict behind_on_conflict behind_statement returning (insert_7 v2 v3 v4 v5 v6)
+starts_insert_after_conflict : (table : List ℕ) → (alias : Option (List ℕ)) → (listed : List (List ℕ)) →
+    (proposed : Rows) → (clause : Option Conflict) →
+    Starts behind_on_conflict (insert_after_conflict table alias listed proposed clause) behind_statement
+unfolding insert_after_into insert_after_table insert_after_alias insert_after_columns insert_after_rows
+    insert_after_conflict insert_after_returning insert_made
+starts_insert_after_conflict table alias listed proposed clause =
+    starts_bind behind_on_conflict behind_on_conflict behind_statement returning
+    (insert_after_returning table alias listed proposed clause)
     (starts_returning behind_on_conflict returning_behind_on_conflict)
-    (λ v7. starts_gives behind_on_conflict behind_statement (insert_made v2 v3 v4 v5 v6 v7) (end_behind_on_conflict))
+    (λ returned. starts_gives behind_on_conflict behind_statement
+    (insert_made table alias listed proposed clause returned) end_behind_on_conflict)
 
-starts_insert_7 : (v2 : List ℕ) → (v3 : Option (List ℕ)) → (v4 : List (List ℕ)) → (v5 : Rows) → (v6 : Option Conflict) →
-    (v7 : List Item) → Starts behind_returning (insert_7 v2 v3 v4 v5 v6 v7) behind_statement
-unfolding insert_1 insert_2 insert_3 insert_4 insert_5 insert_6 insert_7 insert_made
-starts_insert_7 v2 v3 v4 v5 v6 v7 =
-    starts_gives behind_returning behind_statement (insert_made v2 v3 v4 v5 v6 v7) (end_behind_returning)
+starts_insert_after_returning : (table : List ℕ) → (alias : Option (List ℕ)) → (listed : List (List ℕ)) →
+    (proposed : Rows) → (clause : Option Conflict) → (returned : List Item) →
+    Starts behind_returning (insert_after_returning table alias listed proposed clause returned) behind_statement
+unfolding insert_after_into insert_after_table insert_after_alias insert_after_columns insert_after_rows
+    insert_after_conflict insert_after_returning insert_made
+starts_insert_after_returning table alias listed proposed clause returned =
+    starts_gives behind_returning behind_statement (insert_made table alias listed proposed clause returned)
+    end_behind_returning
 
-pub insert_at_0 : (xs : List Token) (l : ℕ) → Misses (t.Keyword k.Into) xs →
+pub insert_no_into : (xs : List Token) (l : ℕ) → Misses (t.Keyword k.Into) xs →
     l ≡ length xs →
-    Reads (insert) behind_statement xs (failed (Syntax l))
-unfolding insert insert_1 insert_2 insert_3 insert_4 insert_5 insert_6 insert_7 insert_made
-insert_at_0 xs l e1 q = word_missed (t.Keyword k.Into) (insert_1) behind_statement xs l e1 q (spelled_insert_1)
+    Reads insert behind_statement xs (failed (Syntax l))
+unfolding insert insert_after_into insert_after_table insert_after_alias insert_after_columns insert_after_rows
+    insert_after_conflict insert_after_returning insert_made
+insert_no_into xs l miss q =
+    word_missed (t.Keyword k.Into) insert_after_into behind_statement xs l miss q spelled_insert_after_into
 
-pub insert_at_1 : (xs y1 : List Token) (f : Fault) → xs ≡ (t.Keyword k.Into) ∷ y1 →
-    Reads name any y1 (failed f) →
-    Reads (insert) behind_statement xs (failed f)
-unfolding insert insert_1 insert_2 insert_3 insert_4 insert_5 insert_6 insert_7 insert_made
-insert_at_1 xs y1 f e1 e2 = word_read (t.Keyword k.Into) (insert_1) behind_statement xs y1 (failed f) e1
-    (reads_bind_failed name (insert_2) any behind_statement y1 f e2 (λ v2. starts_insert_2 v2)
-    (λ v2. spelled_insert_2 v2))
+pub insert_table_failed : (xs after_into : List Token) (f : Fault) → xs ≡ (t.Keyword k.Into) ∷ after_into →
+    Reads name any after_into (failed f) →
+    Reads insert behind_statement xs (failed f)
+unfolding insert insert_after_into insert_after_table insert_after_alias insert_after_columns insert_after_rows
+    insert_after_conflict insert_after_returning insert_made
+insert_table_failed xs after_into f at_into fails =
+    word_read (t.Keyword k.Into) insert_after_into behind_statement xs after_into (failed f) at_into
+    (reads_bind_failed name insert_after_table any behind_statement after_into f fails
+    (λ table. starts_insert_after_table table) (λ table. spelled_insert_after_table table))
 
-pub insert_at_2 : (xs y1 y2 : List Token) (v2 : List ℕ) (f : Fault) → xs ≡ (t.Keyword k.Into) ∷ y1 →
-    Reads name any y1 (read v2 y2) →
-    Reads as_name behind_as y2 (failed f) →
-    Reads (insert) behind_statement xs (failed f)
-unfolding insert insert_1 insert_2 insert_3 insert_4 insert_5 insert_6 insert_7 insert_made
-insert_at_2 xs y1 y2 v2 f e1 e2 e3 = word_read (t.Keyword k.Into) (insert_1) behind_statement xs y1 (failed f) e1
-    (part_read name (insert_2) any behind_statement y1 y2 v2 (failed f) e2 (λ v2. starts_insert_2 v2)
-    (reads_bind_failed as_name (insert_3 v2) behind_as behind_statement y2 f e3 (λ v3. starts_insert_3 v2 v3)
-    (λ v3. spelled_insert_3 v2 v3)))
+pub insert_alias_failed : (xs after_into after_table : List Token) (table : List ℕ) (f : Fault) →
+    xs ≡ (t.Keyword k.Into) ∷ after_into →
+    Reads name any after_into (read table after_table) →
+    Reads as_name behind_as after_table (failed f) →
+    Reads insert behind_statement xs (failed f)
+unfolding insert insert_after_into insert_after_table insert_after_alias insert_after_columns insert_after_rows
+    insert_after_conflict insert_after_returning insert_made
+insert_alias_failed xs after_into after_table table f at_into reads_table fails =
+    word_read (t.Keyword k.Into) insert_after_into behind_statement xs after_into (failed f) at_into
+    (part_read name insert_after_table any behind_statement after_into after_table table (failed f) reads_table
+    (λ table. starts_insert_after_table table)
+    (reads_bind_failed as_name (insert_after_alias table) behind_as behind_statement after_table f fails
+    (λ alias. starts_insert_after_alias table alias) (λ alias. spelled_insert_after_alias table alias)))
 
-pub insert_at_3 : (xs y1 y2 y3 : List Token) (v2 : List ℕ) (v3 : Option (List ℕ)) (f : Fault) →
-    xs ≡ (t.Keyword k.Into) ∷ y1 →
-    Reads name any y1 (read v2 y2) →
-    Reads as_name behind_as y2 (read v3 y3) →
-    Reads columns behind_columns y3 (failed f) →
-    Reads (insert) behind_statement xs (failed f)
-unfolding insert insert_1 insert_2 insert_3 insert_4 insert_5 insert_6 insert_7 insert_made
-insert_at_3 xs y1 y2 y3 v2 v3 f e1 e2 e3 e4 =
-    word_read (t.Keyword k.Into) (insert_1) behind_statement xs y1 (failed f) e1
-    (part_read name (insert_2) any behind_statement y1 y2 v2 (failed f) e2 (λ v2. starts_insert_2 v2)
-    (part_read as_name (insert_3 v2) behind_as behind_statement y2 y3 v3 (failed f) e3 (λ v3. starts_insert_3 v2 v3)
-    (reads_bind_failed columns (insert_4 v2 v3) behind_columns behind_statement y3 f e4 (λ v4. starts_insert_4 v2 v3 v4)
-    (λ v4. spelled_insert_4 v2 v3 v4))))
+pub insert_columns_failed : (xs after_into after_table after_alias : List Token) (table : List ℕ)
+    (alias : Option (List ℕ)) (f : Fault) →
+    xs ≡ (t.Keyword k.Into) ∷ after_into →
+    Reads name any after_into (read table after_table) →
+    Reads as_name behind_as after_table (read alias after_alias) →
+    Reads columns behind_columns after_alias (failed f) →
+    Reads insert behind_statement xs (failed f)
+unfolding insert insert_after_into insert_after_table insert_after_alias insert_after_columns insert_after_rows
+    insert_after_conflict insert_after_returning insert_made
+insert_columns_failed xs after_into after_table after_alias table alias f at_into reads_table reads_alias fails =
+    word_read (t.Keyword k.Into) insert_after_into behind_statement xs after_into (failed f) at_into
+    (part_read name insert_after_table any behind_statement after_into after_table table (failed f) reads_table
+    (λ table. starts_insert_after_table table)
+    (part_read as_name (insert_after_alias table) behind_as behind_statement after_table after_alias alias (failed f)
+    reads_alias (λ alias. starts_insert_after_alias table alias)
+    (reads_bind_failed columns (insert_after_columns table alias) behind_columns behind_statement after_alias f fails
+    (λ listed. starts_insert_after_columns table alias listed)
+    (λ listed. spelled_insert_after_columns table alias listed))))
 
-pub insert_at_4 : (xs y1 y2 y3 y4 : List Token) (v2 : List ℕ) (v3 : Option (List ℕ)) (v4 : List (List ℕ)) (f : Fault) →
-    xs ≡ (t.Keyword k.Into) ∷ y1 →
-    Reads name any y1 (read v2 y2) →
-    Reads as_name behind_as y2 (read v3 y3) →
-    Reads columns behind_columns y3 (read v4 y4) →
-    Reads rows behind_rows y4 (failed f) →
-    Reads (insert) behind_statement xs (failed f)
-unfolding insert insert_1 insert_2 insert_3 insert_4 insert_5 insert_6 insert_7 insert_made
-insert_at_4 xs y1 y2 y3 y4 v2 v3 v4 f e1 e2 e3 e4 e5 =
-    word_read (t.Keyword k.Into) (insert_1) behind_statement xs y1 (failed f) e1
-    (part_read name (insert_2) any behind_statement y1 y2 v2 (failed f) e2 (λ v2. starts_insert_2 v2)
-    (part_read as_name (insert_3 v2) behind_as behind_statement y2 y3 v3 (failed f) e3 (λ v3. starts_insert_3 v2 v3)
-    (part_read columns (insert_4 v2 v3) behind_columns behind_statement y3 y4 v4 (failed f) e4
-    (λ v4. starts_insert_4 v2 v3 v4)
-    (reads_bind_failed rows (insert_5 v2 v3 v4) behind_rows behind_statement y4 f e5 (λ v5. starts_insert_5 v2 v3 v4 v5)
-    (λ v5. spelled_insert_5 v2 v3 v4 v5)))))
+pub insert_rows_failed : (xs after_into after_table after_alias after_columns : List Token) (table : List ℕ)
+    (alias : Option (List ℕ)) (listed : List (List ℕ)) (f : Fault) →
+    xs ≡ (t.Keyword k.Into) ∷ after_into →
+    Reads name any after_into (read table after_table) →
+    Reads as_name behind_as after_table (read alias after_alias) →
+    Reads columns behind_columns after_alias (read listed after_columns) →
+    Reads rows behind_rows after_columns (failed f) →
+    Reads insert behind_statement xs (failed f)
+unfolding insert insert_after_into insert_after_table insert_after_alias insert_after_columns insert_after_rows
+    insert_after_conflict insert_after_returning insert_made
+insert_rows_failed xs after_into after_table after_alias after_columns table alias listed f at_into reads_table
+    reads_alias reads_columns fails =
+    word_read (t.Keyword k.Into) insert_after_into behind_statement xs after_into (failed f) at_into
+    (part_read name insert_after_table any behind_statement after_into after_table table (failed f) reads_table
+    (λ table. starts_insert_after_table table)
+    (part_read as_name (insert_after_alias table) behind_as behind_statement after_table after_alias alias (failed f)
+    reads_alias (λ alias. starts_insert_after_alias table alias)
+    (part_read columns (insert_after_columns table alias) behind_columns behind_statement after_alias after_columns
+    listed (failed f) reads_columns (λ listed. starts_insert_after_columns table alias listed)
+    (reads_bind_failed rows (insert_after_rows table alias listed) behind_rows behind_statement after_columns f fails
+    (λ proposed. starts_insert_after_rows table alias listed proposed)
+    (λ proposed. spelled_insert_after_rows table alias listed proposed)))))
 
-pub insert_at_5 : (xs y1 y2 y3 y4 y5 : List Token) (v2 : List ℕ) (v3 : Option (List ℕ)) (v4 : List (List ℕ)) (v5 : Rows)
-    (f : Fault) → xs ≡ (t.Keyword k.Into) ∷ y1 →
-    Reads name any y1 (read v2 y2) →
-    Reads as_name behind_as y2 (read v3 y3) →
-    Reads columns behind_columns y3 (read v4 y4) →
-    Reads rows behind_rows y4 (read v5 y5) →
-    Reads (optional conflict) behind_on_conflict y5 (failed f) →
-    Reads (insert) behind_statement xs (failed f)
-unfolding insert insert_1 insert_2 insert_3 insert_4 insert_5 insert_6 insert_7 insert_made
-insert_at_5 xs y1 y2 y3 y4 y5 v2 v3 v4 v5 f e1 e2 e3 e4 e5 e6 =
-    word_read (t.Keyword k.Into) (insert_1) behind_statement xs y1 (failed f) e1
-    (part_read name (insert_2) any behind_statement y1 y2 v2 (failed f) e2 (λ v2. starts_insert_2 v2)
-    (part_read as_name (insert_3 v2) behind_as behind_statement y2 y3 v3 (failed f) e3 (λ v3. starts_insert_3 v2 v3)
-    (part_read columns (insert_4 v2 v3) behind_columns behind_statement y3 y4 v4 (failed f) e4
-    (λ v4. starts_insert_4 v2 v3 v4)
-    (part_read rows (insert_5 v2 v3 v4) behind_rows behind_statement y4 y5 v5 (failed f) e5
-    (λ v5. starts_insert_5 v2 v3 v4 v5)
-    (reads_bind_failed (optional conflict) (insert_6 v2 v3 v4 v5) behind_on_conflict behind_statement y5 f e6
-    (λ v6. starts_insert_6 v2 v3 v4 v5 v6) (λ v6. spelled_insert_6 v2 v3 v4 v5 v6))))))
+pub insert_conflict_failed : (xs after_into after_table after_alias after_columns after_rows : List Token)
+    (table : List ℕ) (alias : Option (List ℕ)) (listed : List (List ℕ)) (proposed : Rows) (f : Fault) →
+    xs ≡ (t.Keyword k.Into) ∷ after_into →
+    Reads name any after_into (read table after_table) →
+    Reads as_name behind_as after_table (read alias after_alias) →
+    Reads columns behind_columns after_alias (read listed after_columns) →
+    Reads rows behind_rows after_columns (read proposed after_rows) →
+    Reads (optional conflict) behind_on_conflict after_rows (failed f) →
+    Reads insert behind_statement xs (failed f)
+unfolding insert insert_after_into insert_after_table insert_after_alias insert_after_columns insert_after_rows
+    insert_after_conflict insert_after_returning insert_made
+insert_conflict_failed xs after_into after_table after_alias after_columns after_rows table alias listed proposed f
+    at_into reads_table reads_alias reads_columns reads_rows fails =
+    word_read (t.Keyword k.Into) insert_after_into behind_statement xs after_into (failed f) at_into
+    (part_read name insert_after_table any behind_statement after_into after_table table (failed f) reads_table
+    (λ table. starts_insert_after_table table)
+    (part_read as_name (insert_after_alias table) behind_as behind_statement after_table after_alias alias (failed f)
+    reads_alias (λ alias. starts_insert_after_alias table alias)
+    (part_read columns (insert_after_columns table alias) behind_columns behind_statement after_alias after_columns
+    listed (failed f) reads_columns (λ listed. starts_insert_after_columns table alias listed)
+    (part_read rows (insert_after_rows table alias listed) behind_rows behind_statement after_columns after_rows
+    proposed (failed f) reads_rows (λ proposed. starts_insert_after_rows table alias listed proposed)
+    (reads_bind_failed (optional conflict) (insert_after_conflict table alias listed proposed) behind_on_conflict
+    behind_statement after_rows f fails (λ clause. starts_insert_after_conflict table alias listed proposed clause)
+    (λ clause. spelled_insert_after_conflict table alias listed proposed clause))))))
 
-pub insert_at_6 : (xs y1 y2 y3 y4 y5 y6 : List Token) (v2 : List ℕ) (v3 : Option (List ℕ)) (v4 : List (List ℕ))
-    (v5 : Rows) (v6 : Option Conflict) (f : Fault) → xs ≡ (t.Keyword k.Into) ∷ y1 →
-    Reads name any y1 (read v2 y2) →
-    Reads as_name behind_as y2 (read v3 y3) →
-    Reads columns behind_columns y3 (read v4 y4) →
-    Reads rows behind_rows y4 (read v5 y5) →
-    Reads (optional conflict) behind_on_conflict y5 (read v6 y6) →
-    Reads returning behind_returning y6 (failed f) →
-    Reads (insert) behind_statement xs (failed f)
-unfolding insert insert_1 insert_2 insert_3 insert_4 insert_5 insert_6 insert_7 insert_made
-insert_at_6 xs y1 y2 y3 y4 y5 y6 v2 v3 v4 v5 v6 f e1 e2 e3 e4 e5 e6 e7 =
-    word_read (t.Keyword k.Into) (insert_1) behind_statement xs y1 (failed f) e1
-    (part_read name (insert_2) any behind_statement y1 y2 v2 (failed f) e2 (λ v2. starts_insert_2 v2)
-    (part_read as_name (insert_3 v2) behind_as behind_statement y2 y3 v3 (failed f) e3 (λ v3. starts_insert_3 v2 v3)
-    (part_read columns (insert_4 v2 v3) behind_columns behind_statement y3 y4 v4 (failed f) e4
-    (λ v4. starts_insert_4 v2 v3 v4)
-    (part_read rows (insert_5 v2 v3 v4) behind_rows behind_statement y4 y5 v5 (failed f) e5
-    (λ v5. starts_insert_5 v2 v3 v4 v5)
-    (part_read (optional conflict) (insert_6 v2 v3 v4 v5) behind_on_conflict behind_statement y5 y6 v6 (failed f) e6
-    (λ v6. starts_insert_6 v2 v3 v4 v5 v6)
-    (reads_bind_failed returning (insert_7 v2 v3 v4 v5 v6) behind_returning behind_statement y6 f e7
-    (λ v7. starts_insert_7 v2 v3 v4 v5 v6 v7) (λ v7. spelled_insert_7 v2 v3 v4 v5 v6 v7)))))))
+pub insert_returning_failed :
+    (xs after_into after_table after_alias after_columns after_rows after_conflict : List Token) (table : List ℕ)
+    (alias : Option (List ℕ)) (listed : List (List ℕ)) (proposed : Rows) (clause : Option Conflict) (f : Fault) →
+    xs ≡ (t.Keyword k.Into) ∷ after_into →
+    Reads name any after_into (read table after_table) →
+    Reads as_name behind_as after_table (read alias after_alias) →
+    Reads columns behind_columns after_alias (read listed after_columns) →
+    Reads rows behind_rows after_columns (read proposed after_rows) →
+    Reads (optional conflict) behind_on_conflict after_rows (read clause after_conflict) →
+    Reads returning behind_returning after_conflict (failed f) →
+    Reads insert behind_statement xs (failed f)
+unfolding insert insert_after_into insert_after_table insert_after_alias insert_after_columns insert_after_rows
+    insert_after_conflict insert_after_returning insert_made
+insert_returning_failed xs after_into after_table after_alias after_columns after_rows after_conflict table alias listed
+    proposed clause f at_into reads_table reads_alias reads_columns reads_rows reads_conflict fails =
+    word_read (t.Keyword k.Into) insert_after_into behind_statement xs after_into (failed f) at_into
+    (part_read name insert_after_table any behind_statement after_into after_table table (failed f) reads_table
+    (λ table. starts_insert_after_table table)
+    (part_read as_name (insert_after_alias table) behind_as behind_statement after_table after_alias alias (failed f)
+    reads_alias (λ alias. starts_insert_after_alias table alias)
+    (part_read columns (insert_after_columns table alias) behind_columns behind_statement after_alias after_columns
+    listed (failed f) reads_columns (λ listed. starts_insert_after_columns table alias listed)
+    (part_read rows (insert_after_rows table alias listed) behind_rows behind_statement after_columns after_rows
+    proposed (failed f) reads_rows (λ proposed. starts_insert_after_rows table alias listed proposed)
+    (part_read (optional conflict) (insert_after_conflict table alias listed proposed) behind_on_conflict
+    behind_statement after_rows after_conflict clause (failed f) reads_conflict
+    (λ clause. starts_insert_after_conflict table alias listed proposed clause)
+    (reads_bind_failed returning (insert_after_returning table alias listed proposed clause) behind_returning
+    behind_statement after_conflict f fails
+    (λ returned. starts_insert_after_returning table alias listed proposed clause returned)
+    (λ returned. spelled_insert_after_returning table alias listed proposed clause returned)))))))
 
-pub insert_at_7 : (xs y1 y2 y3 y4 y5 y6 y7 : List Token) (v2 : List ℕ) (v3 : Option (List ℕ)) (v4 : List (List ℕ))
-    (v5 : Rows) (v6 : Option Conflict) (v7 : List Item) → xs ≡ (t.Keyword k.Into) ∷ y1 →
-    Reads name any y1 (read v2 y2) →
-    Reads as_name behind_as y2 (read v3 y3) →
-    Reads columns behind_columns y3 (read v4 y4) →
-    Reads rows behind_rows y4 (read v5 y5) →
-    Reads (optional conflict) behind_on_conflict y5 (read v6 y6) →
-    Reads returning behind_returning y6 (read v7 y7) →
-    Reads (insert) behind_statement xs (read (record {
+pub insert_whole : (xs after_into after_table after_alias after_columns after_rows after_conflict rest : List Token)
+    (table : List ℕ) (alias : Option (List ℕ)) (listed : List (List ℕ)) (proposed : Rows) (clause : Option Conflict)
+    (returned : List Item) →
+    xs ≡ (t.Keyword k.Into) ∷ after_into →
+    Reads name any after_into (read table after_table) →
+    Reads as_name behind_as after_table (read alias after_alias) →
+    Reads columns behind_columns after_alias (read listed after_columns) →
+    Reads rows behind_rows after_columns (read proposed after_rows) →
+    Reads (optional conflict) behind_on_conflict after_rows (read clause after_conflict) →
+    Reads returning behind_returning after_conflict (read returned rest) →
+    Reads insert behind_statement xs (read (record {
       table =
-          v2;
-      alias = v3;
-      columns = v4;
-      rows = v5;
-      conflict = v6;
-      returning = v7;
-    }) y7)
-unfolding insert insert_1 insert_2 insert_3 insert_4 insert_5 insert_6 insert_7 insert_made
-insert_at_7 xs y1 y2 y3 y4 y5 y6 y7 v2 v3 v4 v5 v6 v7 e1 e2 e3 e4 e5 e6 e7 =
-    word_read (t.Keyword k.Into) (insert_1) behind_statement xs y1
-    (read (record { table = v2; alias = v3; columns = v4; rows = v5; conflict = v6; returning = v7 }) y7) e1
-    (part_read name (insert_2) any behind_statement y1 y2 v2 (read
-    (record { table = v2; alias = v3; columns = v4; rows = v5; conflict = v6; returning = v7 }) y7) e2
-    (λ v2. starts_insert_2 v2)
-    (part_read as_name (insert_3 v2) behind_as behind_statement y2 y3 v3
-    (read (record { table = v2; alias = v3; columns = v4; rows = v5; conflict = v6; returning = v7 }) y7) e3
-    (λ v3. starts_insert_3 v2 v3)
-    (part_read columns (insert_4 v2 v3) behind_columns behind_statement y3 y4 v4
-    (read (record { table = v2; alias = v3; columns = v4; rows = v5; conflict = v6; returning = v7 }) y7) e4
-    (λ v4. starts_insert_4 v2 v3 v4)
-    (part_read rows (insert_5 v2 v3 v4) behind_rows behind_statement y4 y5 v5
-    (read (record { table = v2; alias = v3; columns = v4; rows = v5; conflict = v6; returning = v7 }) y7) e5
-    (λ v5. starts_insert_5 v2 v3 v4 v5)
-    (part_read (optional conflict) (insert_6 v2 v3 v4 v5) behind_on_conflict behind_statement y5 y6 v6
-    (read (record { table = v2; alias = v3; columns = v4; rows = v5; conflict = v6; returning = v7 }) y7) e6
-    (λ v6. starts_insert_6 v2 v3 v4 v5 v6)
-    (part_read returning (insert_7 v2 v3 v4 v5 v6) behind_returning behind_statement y6 y7 v7
-    (read (record { table = v2; alias = v3; columns = v4; rows = v5; conflict = v6; returning = v7 }) y7) e7
-    (λ v7. starts_insert_7 v2 v3 v4 v5 v6 v7)
-    (reads_gives (insert_made v2 v3 v4 v5 v6 v7) (insert_made v2 v3 v4 v5 v6 v7) behind_statement y7 refl)))))))
+          table;
+      alias = alias;
+      columns = listed;
+      rows = proposed;
+      conflict = clause;
+      returning = returned;
+    }) rest)
+unfolding insert insert_after_into insert_after_table insert_after_alias insert_after_columns insert_after_rows
+    insert_after_conflict insert_after_returning insert_made
+insert_whole xs after_into after_table after_alias after_columns after_rows after_conflict rest table alias listed
+    proposed clause returned at_into reads_table reads_alias reads_columns reads_rows reads_conflict reads_returning =
+    word_read (t.Keyword k.Into) insert_after_into behind_statement xs after_into
+    (read (insert_made table alias listed proposed clause returned) rest) at_into
+    (part_read name insert_after_table any behind_statement after_into after_table table
+    (read (insert_made table alias listed proposed clause returned) rest) reads_table
+    (λ table. starts_insert_after_table table)
+    (part_read as_name (insert_after_alias table) behind_as behind_statement after_table after_alias alias
+    (read (insert_made table alias listed proposed clause returned) rest) reads_alias
+    (λ alias. starts_insert_after_alias table alias)
+    (part_read columns (insert_after_columns table alias) behind_columns behind_statement after_alias after_columns
+    listed (read (insert_made table alias listed proposed clause returned) rest) reads_columns
+    (λ listed. starts_insert_after_columns table alias listed)
+    (part_read rows (insert_after_rows table alias listed) behind_rows behind_statement after_columns after_rows
+    proposed (read (insert_made table alias listed proposed clause returned) rest) reads_rows
+    (λ proposed. starts_insert_after_rows table alias listed proposed)
+    (part_read (optional conflict) (insert_after_conflict table alias listed proposed) behind_on_conflict
+    behind_statement after_rows after_conflict clause
+    (read (insert_made table alias listed proposed clause returned) rest) reads_conflict
+    (λ clause. starts_insert_after_conflict table alias listed proposed clause)
+    (part_read returning (insert_after_returning table alias listed proposed clause) behind_returning behind_statement
+    after_conflict rest returned (read (insert_made table alias listed proposed clause returned) rest) reads_returning
+    (λ returned. starts_insert_after_returning table alias listed proposed clause returned)
+    (reads_gives (insert_made table alias listed proposed clause returned)
+    (insert_made table alias listed proposed clause returned) behind_statement rest refl)))))))

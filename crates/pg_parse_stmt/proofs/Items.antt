@@ -33,7 +33,7 @@ use Rattle.pg_exprs.specs.declared.operator.BinaryOp.{BinaryOp}
 use Rattle.pg_exprs.specs.declared.operator.UnaryOp.TheVariants.{Negate, Not}
 use Rattle.pg_grammar.proofs.Words.{starts_more}
 use Rattle.pg_parse_expr.specs.Grammar.{Rule, operation, chain, product, sum, concatenation, compared, comparison, test, predicate, negation_over, negation, conjunction, disjunction, named, called, leaf, minus, bracket, factor_over, factor, expr_at}
-use Rattle.pg_parse_expr.specs.Operators.{literal_of, action_name}
+use Rattle.pg_parse_expr.specs.Operators.{value_of, literal_of, action_name}
 use Rattle.pg_parse_expr.specs.Tree.{column, column_of, action, unary}
 use Rattle.pg_parse_expr.proofs.After.{starts_operation}
 use Rattle.pg_parse_expr.proofs.Steps.{starts_compared}
@@ -187,7 +187,7 @@ bars_named_expr j xs b = bars_bind behind_expr behind_item expr named_behind j x
 
 -- "*"
 star_no_literal : (u : Token) (x : Tree) → u ≡ t.Sign s.Star → literal_of u ≡ Some x → ⊥
-unfolding literal_of
+unfolding literal_of value_of
 star_no_literal u x e h = let o : None ≡ Some x = sym (ap literal_of e) ∙ h in cc o
 
 star_no_name : (u : Token) (x : List ℕ) → u ≡ t.Sign s.Star → name_of u ≡ Some x → ⊥
@@ -232,7 +232,7 @@ item_all xs ys e =
 
 -- name "." "*"
 name_no_literal : (u : Token) (n : List ℕ) (x : Tree) → name_of u ≡ Some n → literal_of u ≡ Some x → ⊥
-unfolding name_of literal_of may_be_name
+unfolding name_of literal_of value_of may_be_name
 name_no_literal (t.Name _) n x e h = let o : None ≡ Some x = h in cc o
 name_no_literal (t.Sign _) n x e h = let o : None ≡ Some n = e in cc o
 name_no_literal (t.Integer _) n x e h = let o : None ≡ Some n = e in cc o

@@ -13,9 +13,9 @@ use Rattle.pg_lexer.specs.declared.keyword.Keyword.TheVariants as word
 use Rattle.pg_lexer.specs.declared.token.Token.{Token}
 use Rattle.pg_lexer.specs.declared.token.Token.TheVariants.{Keyword, Sign, Name, Integer, Quoted}
 use Rattle.pg_parse_expr.specs.Laws.{is_free_name, is_literal, is_token}
-use Rattle.pg_parse_expr.specs.Operators.{name_of}
+use Rattle.pg_parse_expr.specs.Operators.{name_of, value_of}
 use Rattle.pg_parse_expr.proofs.Within.{name_free}
-use Rattle.pg_parse_stmt.specs.Words.{bare_name_of, integer_of, value_of, negative_of}
+use Rattle.pg_parse_stmt.specs.Words.{bare_name_of, integer_of, negative_of}
 use Rattle.pg_parse_stmt.specs.Laws.{is_limit, is_negative}
 use Rattle.pg_parse_stmt.proofs.Keeping.{Reading, both}
 

@@ -1,6 +1,6 @@
 -- Lemmas of the parser, from its small functions up to whole statements, and of the laws of the grammar.
--- Of a rule of several parts RULE_i is what is left of it behind its first i parts. RULE_at_i says what the rule answers
--- where the part behind those is not read; the last of them, where all are.
+-- Of a rule of several parts RULE_after_PART is what is left of it behind that part. RULE_no_WORD and RULE_PART_failed
+-- say what the rule answers where that word or part is not read, and RULE_whole, where all are.
 pub mod Exits
 pub mod Lists
 pub mod Steps

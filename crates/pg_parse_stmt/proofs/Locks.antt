@@ -23,7 +23,7 @@ use Rattle.pg_parse_stmt.specs.declared.tree.LockStrength.TheVariants as lock
 use Rattle.pg_parse_stmt.specs.declared.tree.LockWait.{LockWait}
 use Rattle.pg_parse_stmt.specs.declared.tree.LockWait.TheVariants as wait_of
 use Rattle.pg_parse_stmt.specs.declared.tree.Locking.{Locking}
-use Rattle.pg_parse_stmt.proofs.Following.{for_goes_on_locking, nowait_behind_of, nowait_goes_on_wait, of_goes_on_of, skip_behind_of, skip_goes_on_wait}
+use Rattle.pg_parse_stmt.proofs.Following.{for_goes_on_locking, nowait_behind_of, nowait_goes_on_wait, skip_behind_of, skip_goes_on_wait}
 
 spelled_behind : (v : LockStrength) → Spelled (strength_behind v)
 unfolding strength_behind
@@ -94,24 +94,6 @@ strength_failed xs f r =
 spelled_strength : Spelled strength
 unfolding strength
 spelled_strength = spelled_bind (one strength_of) strength_behind spelled_strength_word spelled_behind
-
-of_below : (o : Option Token) → behind_of o ≡ true → any o ≡ true
-unfolding behind_of
-of_below o e = refl
-
-pub of_read : (xs ys zs : List Token) (v : List ℕ) → xs ≡ (t.Keyword k.Of) ∷ ys → Reads (name) any ys (read v zs) →
-    Reads of_table behind_of xs (read (Some v) zs)
-unfolding of_table
-of_read xs ys zs v e r = some_read (t.Keyword k.Of) (name) any behind_of of_below xs ys zs v of_goes_on_of e r
-
-pub of_failed : (xs ys : List Token) (f : Fault) → xs ≡ (t.Keyword k.Of) ∷ ys → Reads (name) any ys (failed f) →
-    Reads of_table behind_of xs (failed f)
-unfolding of_table
-of_failed xs ys f e r = some_failed (t.Keyword k.Of) (name) any behind_of of_below xs ys f of_goes_on_of e r
-
-pub of_none : (xs : List Token) → Misses (t.Keyword k.Of) xs → Reads of_table behind_of xs (read None xs)
-unfolding of_table
-of_none xs miss = none_read (t.Keyword k.Of) (name) behind_of xs miss
 
 pub starts_of : (b : Option Token → Bool) → b (Some (t.Keyword k.Of)) ≡ true → Starts b of_table b
 unfolding of_table
@@ -205,90 +187,106 @@ locked_wait : (o : Option Token) → behind_locked o ≡ true → behind_wait o 
 unfolding behind_locked
 locked_wait o e = and_right (behind_of o) (behind_wait o) e
 
-locked_made : (v1 : LockStrength) → (v2 : Option (List ℕ)) → (v3 : LockWait) → Locking
-locked_made v1 v2 v3 = record { strength = v1; table = v2; wait = v3 }
+-- strength [OF name] [NOWAIT | SKIP LOCKED], behind FOR
+locked_made : (mode : LockStrength) → (table : Option (List ℕ)) → (wait : LockWait) → Locking
+locked_made mode table wait = record { strength = mode; table = table; wait = wait }
 
-locked_3 : (v1 : LockStrength) → (v2 : Option (List ℕ)) → (v3 : LockWait) → Lang Token Locking
-locked_3 v1 v2 v3 = gives (locked_made v1 v2 v3)
+locked_after_wait : (mode : LockStrength) → (table : Option (List ℕ)) → (wait : LockWait) → Lang Token Locking
+locked_after_wait mode table wait = gives (locked_made mode table wait)
 
-spelled_locked_3 : (v1 : LockStrength) → (v2 : Option (List ℕ)) → (v3 : LockWait) → Spelled (locked_3 v1 v2 v3)
-unfolding locked_3
-spelled_locked_3 v1 v2 v3 = spelled_gives (locked_made v1 v2 v3)
+spelled_locked_after_wait : (mode : LockStrength) → (table : Option (List ℕ)) → (wait : LockWait) →
+    Spelled (locked_after_wait mode table wait)
+unfolding locked_after_wait
+spelled_locked_after_wait mode table wait = spelled_gives (locked_made mode table wait)
 
-locked_2 : (v1 : LockStrength) → (v2 : Option (List ℕ)) → Lang Token Locking
-locked_2 v1 v2 = bind lock_wait (locked_3 v1 v2)
+locked_after_table : (mode : LockStrength) → (table : Option (List ℕ)) → Lang Token Locking
+locked_after_table mode table = bind lock_wait (locked_after_wait mode table)
 
-spelled_locked_2 : (v1 : LockStrength) → (v2 : Option (List ℕ)) → Spelled (locked_2 v1 v2)
-unfolding locked_2
-spelled_locked_2 v1 v2 = spelled_bind lock_wait (locked_3 v1 v2) spelled_wait (λ u. spelled_locked_3 v1 v2 u)
+spelled_locked_after_table : (mode : LockStrength) → (table : Option (List ℕ)) → Spelled (locked_after_table mode table)
+unfolding locked_after_table
+spelled_locked_after_table mode table =
+    spelled_bind lock_wait (locked_after_wait mode table) spelled_wait
+    (λ wait. spelled_locked_after_wait mode table wait)
 
-locked_1 : (v1 : LockStrength) → Lang Token Locking
-locked_1 v1 = bind of_table (locked_2 v1)
+locked_after_strength : (mode : LockStrength) → Lang Token Locking
+locked_after_strength mode = bind of_table (locked_after_table mode)
 
-spelled_locked_1 : (v1 : LockStrength) → Spelled (locked_1 v1)
-unfolding locked_1
-spelled_locked_1 v1 = spelled_bind of_table (locked_2 v1) spelled_of (λ u. spelled_locked_2 v1 u)
+spelled_locked_after_strength : (mode : LockStrength) → Spelled (locked_after_strength mode)
+unfolding locked_after_strength
+spelled_locked_after_strength mode =
+    spelled_bind of_table (locked_after_table mode) spelled_of (λ table. spelled_locked_after_table mode table)
 
-pub spelled_locked : Spelled (locked)
-unfolding locked locked_1 locked_2 locked_3 locked_made
-spelled_locked = spelled_bind strength (locked_1) spelled_strength (λ u. spelled_locked_1 u)
+pub spelled_locked : Spelled locked
+unfolding locked locked_after_strength locked_after_table locked_after_wait locked_made
+spelled_locked =
+    spelled_bind strength locked_after_strength spelled_strength (λ mode. spelled_locked_after_strength mode)
 
-starts_locked_1 : (v1 : LockStrength) → Starts any (locked_1 v1) behind_locked
-unfolding locked_1 locked_2 locked_3 locked_made
-starts_locked_1 v1 = starts_any (locked_1 v1) behind_locked
+starts_locked_after_strength : (mode : LockStrength) → Starts any (locked_after_strength mode) behind_locked
+unfolding locked_after_strength locked_after_table locked_after_wait locked_made
+starts_locked_after_strength mode = starts_any (locked_after_strength mode) behind_locked
 
-starts_locked_2 : (v1 : LockStrength) → (v2 : Option (List ℕ)) → Starts behind_of (locked_2 v1 v2) behind_locked
-unfolding locked_1 locked_2 locked_3 locked_made
-starts_locked_2 v1 v2 =
-    starts_bind behind_of behind_of behind_locked lock_wait (locked_3 v1 v2)
-    (starts_wait behind_of nowait_behind_of skip_behind_of) (λ v3. starts_gives behind_of behind_locked
-    (locked_made v1 v2 v3) (locked_of))
+starts_locked_after_table : (mode : LockStrength) → (table : Option (List ℕ)) →
+    Starts behind_of (locked_after_table mode table) behind_locked
+unfolding locked_after_strength locked_after_table locked_after_wait locked_made
+starts_locked_after_table mode table =
+    starts_bind behind_of behind_of behind_locked lock_wait (locked_after_wait mode table)
+    (starts_wait behind_of nowait_behind_of skip_behind_of) (λ wait. starts_gives behind_of behind_locked
+    (locked_made mode table wait) locked_of)
 
-starts_locked_3 : (v1 : LockStrength) → (v2 : Option (List ℕ)) → (v3 : LockWait) →
-    Starts behind_wait (locked_3 v1 v2 v3) behind_locked
-unfolding locked_1 locked_2 locked_3 locked_made
-starts_locked_3 v1 v2 v3 = starts_gives behind_wait behind_locked (locked_made v1 v2 v3) (locked_wait)
+starts_locked_after_wait : (mode : LockStrength) → (table : Option (List ℕ)) → (wait : LockWait) →
+    Starts behind_wait (locked_after_wait mode table wait) behind_locked
+unfolding locked_after_strength locked_after_table locked_after_wait locked_made
+starts_locked_after_wait mode table wait =
+    starts_gives behind_wait behind_locked (locked_made mode table wait) locked_wait
 
-pub locked_at_0 : (xs : List Token) (f : Fault) → Reads strength any xs (failed f) →
-    Reads (locked) behind_locked xs (failed f)
-unfolding locked locked_1 locked_2 locked_3 locked_made
-locked_at_0 xs f e1 =
-    reads_bind_failed strength (locked_1) any behind_locked xs f e1 (λ v1. starts_locked_1 v1)
-    (λ v1. spelled_locked_1 v1)
+pub locked_strength_failed : (xs : List Token) (f : Fault) → Reads strength any xs (failed f) →
+    Reads locked behind_locked xs (failed f)
+unfolding locked locked_after_strength locked_after_table locked_after_wait locked_made
+locked_strength_failed xs f fails =
+    reads_bind_failed strength locked_after_strength any behind_locked xs f fails
+    (λ mode. starts_locked_after_strength mode) (λ mode. spelled_locked_after_strength mode)
 
-pub locked_at_1 : (xs y1 : List Token) (v1 : LockStrength) (f : Fault) → Reads strength any xs (read v1 y1) →
-    Reads of_table behind_of y1 (failed f) →
-    Reads (locked) behind_locked xs (failed f)
-unfolding locked locked_1 locked_2 locked_3 locked_made
-locked_at_1 xs y1 v1 f e1 e2 =
-    part_read strength (locked_1) any behind_locked xs y1 v1 (failed f) e1 (λ v1. starts_locked_1 v1)
-    (reads_bind_failed of_table (locked_2 v1) behind_of behind_locked y1 f e2 (λ v2. starts_locked_2 v1 v2)
-    (λ v2. spelled_locked_2 v1 v2))
+pub locked_table_failed : (xs after_strength : List Token) (mode : LockStrength) (f : Fault) →
+    Reads strength any xs (read mode after_strength) →
+    Reads of_table behind_of after_strength (failed f) →
+    Reads locked behind_locked xs (failed f)
+unfolding locked locked_after_strength locked_after_table locked_after_wait locked_made
+locked_table_failed xs after_strength mode f reads_strength fails =
+    part_read strength locked_after_strength any behind_locked xs after_strength mode (failed f) reads_strength
+    (λ mode. starts_locked_after_strength mode)
+    (reads_bind_failed of_table (locked_after_table mode) behind_of behind_locked after_strength f fails
+    (λ table. starts_locked_after_table mode table) (λ table. spelled_locked_after_table mode table))
 
-pub locked_at_2 : (xs y1 y2 : List Token) (v1 : LockStrength) (v2 : Option (List ℕ)) (f : Fault) →
-    Reads strength any xs (read v1 y1) → Reads of_table behind_of y1 (read v2 y2) →
-    Reads lock_wait behind_wait y2 (failed f) →
-    Reads (locked) behind_locked xs (failed f)
-unfolding locked locked_1 locked_2 locked_3 locked_made
-locked_at_2 xs y1 y2 v1 v2 f e1 e2 e3 =
-    part_read strength (locked_1) any behind_locked xs y1 v1 (failed f) e1 (λ v1. starts_locked_1 v1)
-    (part_read of_table (locked_2 v1) behind_of behind_locked y1 y2 v2 (failed f) e2 (λ v2. starts_locked_2 v1 v2)
-    (reads_bind_failed lock_wait (locked_3 v1 v2) behind_wait behind_locked y2 f e3 (λ v3. starts_locked_3 v1 v2 v3)
-    (λ v3. spelled_locked_3 v1 v2 v3)))
+pub locked_wait_failed : (xs after_strength after_table : List Token) (mode : LockStrength) (table : Option (List ℕ))
+    (f : Fault) →
+    Reads strength any xs (read mode after_strength) →
+    Reads of_table behind_of after_strength (read table after_table) →
+    Reads lock_wait behind_wait after_table (failed f) →
+    Reads locked behind_locked xs (failed f)
+unfolding locked locked_after_strength locked_after_table locked_after_wait locked_made
+locked_wait_failed xs after_strength after_table mode table f reads_strength reads_table fails =
+    part_read strength locked_after_strength any behind_locked xs after_strength mode (failed f) reads_strength
+    (λ mode. starts_locked_after_strength mode)
+    (part_read of_table (locked_after_table mode) behind_of behind_locked after_strength after_table table (failed f)
+    reads_table (λ table. starts_locked_after_table mode table)
+    (reads_bind_failed lock_wait (locked_after_wait mode table) behind_wait behind_locked after_table f fails
+    (λ wait. starts_locked_after_wait mode table wait) (λ wait. spelled_locked_after_wait mode table wait)))
 
-pub locked_at_3 : (xs y1 y2 y3 : List Token) (v1 : LockStrength) (v2 : Option (List ℕ)) (v3 : LockWait) →
-    Reads strength any xs (read v1 y1) → Reads of_table behind_of y1 (read v2 y2) →
-    Reads lock_wait behind_wait y2 (read v3 y3) →
-    Reads (locked) behind_locked xs (read (record { strength = v1; table = v2; wait = v3 }) y3)
-unfolding locked locked_1 locked_2 locked_3 locked_made
-locked_at_3 xs y1 y2 y3 v1 v2 v3 e1 e2 e3 =
-    part_read strength (locked_1) any behind_locked xs y1 v1 (read
-    (record { strength = v1; table = v2; wait = v3 }) y3) e1 (λ v1. starts_locked_1 v1)
-    (part_read of_table (locked_2 v1) behind_of behind_locked y1 y2 v2
-    (read (record { strength = v1; table = v2; wait = v3 }) y3) e2 (λ v2. starts_locked_2 v1 v2)
-    (part_read lock_wait (locked_3 v1 v2) behind_wait behind_locked y2 y3 v3
-    (read (record { strength = v1; table = v2; wait = v3 }) y3) e3 (λ v3. starts_locked_3 v1 v2 v3)
-    (reads_gives (locked_made v1 v2 v3) (locked_made v1 v2 v3) behind_locked y3 refl)))
+pub locked_whole : (xs after_strength after_table rest : List Token) (mode : LockStrength) (table : Option (List ℕ))
+    (wait : LockWait) →
+    Reads strength any xs (read mode after_strength) →
+    Reads of_table behind_of after_strength (read table after_table) →
+    Reads lock_wait behind_wait after_table (read wait rest) →
+    Reads locked behind_locked xs (read (record { strength = mode; table = table; wait = wait }) rest)
+unfolding locked locked_after_strength locked_after_table locked_after_wait locked_made
+locked_whole xs after_strength after_table rest mode table wait reads_strength reads_table reads_wait =
+    part_read strength locked_after_strength any behind_locked xs after_strength mode
+    (read (locked_made mode table wait) rest) reads_strength (λ mode. starts_locked_after_strength mode)
+    (part_read of_table (locked_after_table mode) behind_of behind_locked after_strength after_table table
+    (read (locked_made mode table wait) rest) reads_table (λ table. starts_locked_after_table mode table)
+    (part_read lock_wait (locked_after_wait mode table) behind_wait behind_locked after_table rest wait
+    (read (locked_made mode table wait) rest) reads_wait (λ wait. starts_locked_after_wait mode table wait)
+    (reads_gives (locked_made mode table wait) (locked_made mode table wait) behind_locked rest refl)))
 
 locking_below : (o : Option Token) → behind_locking o ≡ true → behind_locked o ≡ true
 unfolding behind_locking

@@ -1,5 +1,5 @@
 -- MERGE
-use Rattle.std.proofs.Common.{◌≡◌, ◌∷◌, ◌++◌, ℕ, Bool, true, false, List, [], length, Option, Some, None, refl, sym, ap, ◌∙◌}
+use Rattle.std.proofs.Common.{◌≡◌, ◌∷◌, ◌++◌, ℕ, Bool, true, false, List, [], length, Option, Some, refl, sym, ap, ◌∙◌}
 use Rattle.std.specs.Prelude.{not}
 use Rattle.pg_grammar.specs.declared.fault.Fault.{Fault}
 use Rattle.pg_grammar.specs.declared.fault.Fault.TheVariants.{Syntax}
@@ -17,7 +17,7 @@ use Rattle.pg_parse_stmt.specs.Behind.{any, is_word, behind_table, behind_return
 use Rattle.pg_parse_stmt.specs.Forms.{word, optional}
 use Rattle.pg_parse_stmt.specs.Spellings.{spelled_expr, spelled_optional}
 use Rattle.pg_parse_stmt.proofs.Lists.{starts_any, and_left}
-use Rattle.pg_parse_stmt.proofs.Steps.{word_read, word_missed, part_read, some_read, some_failed, none_read, starts_optional}
+use Rattle.pg_parse_stmt.proofs.Steps.{word_read, word_missed, part_read, starts_optional}
 use Rattle.std.proofs.Common.{subst}
 use Rattle.pg_grammar.proofs.Leading.{Leads, leads_on, reads_narrow}
 use Rattle.pg_grammar.proofs.Words.{starts_more, spelled_more, spelled_left, bars_either, bars_from}
@@ -42,7 +42,7 @@ use Rattle.pg_parse_stmt.specs.declared.tree.Merge.{Merge}
 use Rattle.pg_parse_stmt.proofs.Tables.{spelled_table_ref}
 use Rattle.pg_parse_stmt.proofs.Inserts.{spelled_columns}
 use Rattle.pg_parse_stmt.proofs.Orders.{starts_returning, spelled_returning}
-use Rattle.pg_parse_stmt.proofs.Following.{and_goes_on_guard, end_behind_returning, end_behind_whens, on_behind_table, returning_behind_whens, then_behind_guard, using_behind_table, values_behind_columns, when_behind_expr, when_behind_sets, when_goes_on_whens}
+use Rattle.pg_parse_stmt.proofs.Following.{end_behind_returning, end_behind_whens, on_behind_table, returning_behind_whens, then_behind_guard, using_behind_table, values_behind_columns, when_behind_expr, when_behind_sets, when_goes_on_whens}
 
 -- a change
 update_made : List Assignment → Lang Token Change
@@ -132,152 +132,175 @@ spelled_the_change : Spelled change
 unfolding change
 spelled_the_change = spelled_bind (one change_of) change_behind spelled_change spelled_change_behind
 
-addition_insert_made : (v2 : List (List ℕ)) → (v4 : List Tree) → Addition
-addition_insert_made v2 v4 = addition_of.Insert v2 v4
+-- INSERT ["(" names ")"] VALUES tuple
+addition_insert_made : (listed : List (List ℕ)) → (row : List Tree) → Addition
+addition_insert_made listed row = addition_of.Insert listed row
 
-addition_insert_4 : (v2 : List (List ℕ)) → (v4 : List Tree) → Lang Token Addition
-addition_insert_4 v2 v4 = gives (addition_insert_made v2 v4)
+addition_after_tuple : (listed : List (List ℕ)) → (row : List Tree) → Lang Token Addition
+addition_after_tuple listed row = gives (addition_insert_made listed row)
 
-spelled_addition_insert_4 : (v2 : List (List ℕ)) → (v4 : List Tree) → Spelled (addition_insert_4 v2 v4)
-unfolding addition_insert_4
-spelled_addition_insert_4 v2 v4 = spelled_gives (addition_insert_made v2 v4)
+spelled_addition_after_tuple : (listed : List (List ℕ)) → (row : List Tree) → Spelled (addition_after_tuple listed row)
+unfolding addition_after_tuple
+spelled_addition_after_tuple listed row = spelled_gives (addition_insert_made listed row)
 
-addition_insert_3 : (v2 : List (List ℕ)) → Lang Token Addition
-addition_insert_3 v2 = bind tuple (addition_insert_4 v2)
+addition_after_values : (listed : List (List ℕ)) → Lang Token Addition
+addition_after_values listed = bind tuple (addition_after_tuple listed)
 
-spelled_addition_insert_3 : (v2 : List (List ℕ)) → Spelled (addition_insert_3 v2)
-unfolding addition_insert_3
-spelled_addition_insert_3 v2 =
-    spelled_bind tuple (addition_insert_4 v2) spelled_tuple (λ u. spelled_addition_insert_4 v2 u)
+spelled_addition_after_values : (listed : List (List ℕ)) → Spelled (addition_after_values listed)
+unfolding addition_after_values
+spelled_addition_after_values listed =
+    spelled_bind tuple (addition_after_tuple listed) spelled_tuple (λ row. spelled_addition_after_tuple listed row)
 
-addition_insert_2 : (v2 : List (List ℕ)) → Lang Token Addition
-addition_insert_2 v2 = token (t.Keyword k.Values) (addition_insert_3 v2)
+addition_after_columns : (listed : List (List ℕ)) → Lang Token Addition
+addition_after_columns listed = token (t.Keyword k.Values) (addition_after_values listed)
 
-spelled_addition_insert_2 : (v2 : List (List ℕ)) → Spelled (addition_insert_2 v2)
-unfolding addition_insert_2
-spelled_addition_insert_2 v2 = spelled_token (t.Keyword k.Values) (addition_insert_3 v2) (spelled_addition_insert_3 v2)
+spelled_addition_after_columns : (listed : List (List ℕ)) → Spelled (addition_after_columns listed)
+unfolding addition_after_columns
+spelled_addition_after_columns listed =
+    spelled_token (t.Keyword k.Values) (addition_after_values listed) (spelled_addition_after_values listed)
 
-addition_insert_1 : Lang Token Addition
-addition_insert_1 = bind columns (addition_insert_2)
+addition_after_insert : Lang Token Addition
+addition_after_insert = bind columns addition_after_columns
 
-spelled_addition_insert_1 : Spelled (addition_insert_1)
-unfolding addition_insert_1
-spelled_addition_insert_1 = spelled_bind columns (addition_insert_2) spelled_columns (λ u. spelled_addition_insert_2 u)
+spelled_addition_after_insert : Spelled addition_after_insert
+unfolding addition_after_insert
+spelled_addition_after_insert =
+    spelled_bind columns addition_after_columns spelled_columns (λ listed. spelled_addition_after_columns listed)
 
-pub spelled_addition_insert : Spelled (addition_insert)
-unfolding addition_insert addition_insert_1 addition_insert_2 addition_insert_3 addition_insert_4 addition_insert_made
-spelled_addition_insert = spelled_token (t.Keyword k.Insert) (addition_insert_1) (spelled_addition_insert_1)
+pub spelled_addition_insert : Spelled addition_insert
+unfolding addition_insert addition_after_insert addition_after_columns addition_after_values addition_after_tuple
+    addition_insert_made
+spelled_addition_insert = spelled_token (t.Keyword k.Insert) addition_after_insert spelled_addition_after_insert
 
-starts_addition_insert_2 : (v2 : List (List ℕ)) → Starts behind_columns (addition_insert_2 v2) any
-unfolding addition_insert_1 addition_insert_2 addition_insert_3 addition_insert_4 addition_insert_made
-starts_addition_insert_2 v2 =
-    starts_token behind_columns any (t.Keyword k.Values) (addition_insert_3 v2) values_behind_columns
+starts_addition_after_columns : (listed : List (List ℕ)) → Starts behind_columns (addition_after_columns listed) any
+unfolding addition_after_insert addition_after_columns addition_after_values addition_after_tuple addition_insert_made
+starts_addition_after_columns listed =
+    starts_token behind_columns any (t.Keyword k.Values) (addition_after_values listed) values_behind_columns
 
-starts_addition_insert_4 : (v2 : List (List ℕ)) → (v4 : List Tree) → Starts any (addition_insert_4 v2 v4) any
-unfolding addition_insert_1 addition_insert_2 addition_insert_3 addition_insert_4 addition_insert_made
-starts_addition_insert_4 v2 v4 = starts_any (addition_insert_4 v2 v4) any
+starts_addition_after_tuple : (listed : List (List ℕ)) → (row : List Tree) →
+    Starts any (addition_after_tuple listed row) any
+unfolding addition_after_insert addition_after_columns addition_after_values addition_after_tuple addition_insert_made
+starts_addition_after_tuple listed row = starts_any (addition_after_tuple listed row) any
 
-pub addition_insert_at_0 : (xs : List Token) (l : ℕ) → Misses (t.Keyword k.Insert) xs →
+pub addition_insert_no_insert : (xs : List Token) (l : ℕ) → Misses (t.Keyword k.Insert) xs →
     l ≡ length xs →
-    Reads (addition_insert) any xs (failed (Syntax l))
-unfolding addition_insert addition_insert_1 addition_insert_2 addition_insert_3 addition_insert_4 addition_insert_made
-addition_insert_at_0 xs l e1 q =
-    word_missed (t.Keyword k.Insert) (addition_insert_1) any xs l e1 q (spelled_addition_insert_1)
+    Reads addition_insert any xs (failed (Syntax l))
+unfolding addition_insert addition_after_insert addition_after_columns addition_after_values addition_after_tuple
+    addition_insert_made
+addition_insert_no_insert xs l miss q =
+    word_missed (t.Keyword k.Insert) addition_after_insert any xs l miss q spelled_addition_after_insert
 
-pub addition_insert_at_1 : (xs y1 : List Token) (f : Fault) → xs ≡ (t.Keyword k.Insert) ∷ y1 →
-    Reads columns behind_columns y1 (failed f) →
-    Reads (addition_insert) any xs (failed f)
-unfolding addition_insert addition_insert_1 addition_insert_2 addition_insert_3 addition_insert_4 addition_insert_made
-addition_insert_at_1 xs y1 f e1 e2 = word_read (t.Keyword k.Insert) (addition_insert_1) any xs y1 (failed f) e1
-    (reads_bind_failed columns (addition_insert_2) behind_columns any y1 f e2 (λ v2. starts_addition_insert_2 v2)
-    (λ v2. spelled_addition_insert_2 v2))
+pub addition_insert_columns_failed : (xs after_insert : List Token) (f : Fault) →
+    xs ≡ (t.Keyword k.Insert) ∷ after_insert →
+    Reads columns behind_columns after_insert (failed f) →
+    Reads addition_insert any xs (failed f)
+unfolding addition_insert addition_after_insert addition_after_columns addition_after_values addition_after_tuple
+    addition_insert_made
+addition_insert_columns_failed xs after_insert f at_insert fails =
+    word_read (t.Keyword k.Insert) addition_after_insert any xs after_insert (failed f) at_insert
+    (reads_bind_failed columns addition_after_columns behind_columns any after_insert f fails
+    (λ listed. starts_addition_after_columns listed) (λ listed. spelled_addition_after_columns listed))
 
-pub addition_insert_at_2 : (xs y1 y2 : List Token) (v2 : List (List ℕ)) (l : ℕ) → xs ≡ (t.Keyword k.Insert) ∷ y1 →
-    Reads columns behind_columns y1 (read v2 y2) →
-    Misses (t.Keyword k.Values) y2 →
-    l ≡ length y2 →
-    Reads (addition_insert) any xs (failed (Syntax l))
-unfolding addition_insert addition_insert_1 addition_insert_2 addition_insert_3 addition_insert_4 addition_insert_made
-addition_insert_at_2 xs y1 y2 v2 l e1 e2 e3 q =
-    word_read (t.Keyword k.Insert) (addition_insert_1) any xs y1 (failed (Syntax l)) e1
-    (part_read columns (addition_insert_2) behind_columns any y1 y2 v2 (failed (Syntax l)) e2
-    (λ v2. starts_addition_insert_2 v2)
-    (word_missed (t.Keyword k.Values) (addition_insert_3 v2) any y2 l e3 q (spelled_addition_insert_3 v2)))
+pub addition_insert_no_values : (xs after_insert after_columns : List Token) (listed : List (List ℕ)) (l : ℕ) →
+    xs ≡ (t.Keyword k.Insert) ∷ after_insert →
+    Reads columns behind_columns after_insert (read listed after_columns) →
+    Misses (t.Keyword k.Values) after_columns →
+    l ≡ length after_columns →
+    Reads addition_insert any xs (failed (Syntax l))
+unfolding addition_insert addition_after_insert addition_after_columns addition_after_values addition_after_tuple
+    addition_insert_made
+addition_insert_no_values xs after_insert after_columns listed l at_insert reads_columns miss q =
+    word_read (t.Keyword k.Insert) addition_after_insert any xs after_insert (failed (Syntax l)) at_insert
+    (part_read columns addition_after_columns behind_columns any after_insert after_columns listed (failed (Syntax l))
+    reads_columns (λ listed. starts_addition_after_columns listed)
+    (word_missed (t.Keyword k.Values) (addition_after_values listed) any after_columns l miss q
+    (spelled_addition_after_values listed)))
 
-pub addition_insert_at_3 : (xs y1 y2 y3 : List Token) (v2 : List (List ℕ)) (f : Fault) →
-    xs ≡ (t.Keyword k.Insert) ∷ y1 →
-    Reads columns behind_columns y1 (read v2 y2) →
-    y2 ≡ (t.Keyword k.Values) ∷ y3 →
-    Reads tuple any y3 (failed f) →
-    Reads (addition_insert) any xs (failed f)
-unfolding addition_insert addition_insert_1 addition_insert_2 addition_insert_3 addition_insert_4 addition_insert_made
-addition_insert_at_3 xs y1 y2 y3 v2 f e1 e2 e3 e4 =
-    word_read (t.Keyword k.Insert) (addition_insert_1) any xs y1 (failed f) e1
-    (part_read columns (addition_insert_2) behind_columns any y1 y2 v2 (failed f) e2 (λ v2. starts_addition_insert_2 v2)
-    (word_read (t.Keyword k.Values) (addition_insert_3 v2) any y2 y3 (failed f) e3
-    (reads_bind_failed tuple (addition_insert_4 v2) any any y3 f e4 (λ v4. starts_addition_insert_4 v2 v4)
-    (λ v4. spelled_addition_insert_4 v2 v4))))
+pub addition_insert_tuple_failed : (xs after_insert after_columns after_values : List Token) (listed : List (List ℕ))
+    (f : Fault) →
+    xs ≡ (t.Keyword k.Insert) ∷ after_insert →
+    Reads columns behind_columns after_insert (read listed after_columns) →
+    after_columns ≡ (t.Keyword k.Values) ∷ after_values →
+    Reads tuple any after_values (failed f) →
+    Reads addition_insert any xs (failed f)
+unfolding addition_insert addition_after_insert addition_after_columns addition_after_values addition_after_tuple
+    addition_insert_made
+addition_insert_tuple_failed xs after_insert after_columns after_values listed f at_insert reads_columns at_values fails
+    =
+    word_read (t.Keyword k.Insert) addition_after_insert any xs after_insert (failed f) at_insert
+    (part_read columns addition_after_columns behind_columns any after_insert after_columns listed (failed f)
+    reads_columns (λ listed. starts_addition_after_columns listed)
+    (word_read (t.Keyword k.Values) (addition_after_values listed) any after_columns after_values (failed f) at_values
+    (reads_bind_failed tuple (addition_after_tuple listed) any any after_values f fails
+    (λ row. starts_addition_after_tuple listed row) (λ row. spelled_addition_after_tuple listed row))))
 
-pub addition_insert_at_4 : (xs y1 y2 y3 y4 : List Token) (v2 : List (List ℕ)) (v4 : List Tree) →
-    xs ≡ (t.Keyword k.Insert) ∷ y1 →
-    Reads columns behind_columns y1 (read v2 y2) →
-    y2 ≡ (t.Keyword k.Values) ∷ y3 →
-    Reads tuple any y3 (read v4 y4) →
-    Reads (addition_insert) any xs (read (addition_of.Insert v2 v4) y4)
-unfolding addition_insert addition_insert_1 addition_insert_2 addition_insert_3 addition_insert_4 addition_insert_made
-addition_insert_at_4 xs y1 y2 y3 y4 v2 v4 e1 e2 e3 e4 =
-    word_read (t.Keyword k.Insert) (addition_insert_1) any xs y1 (read (addition_of.Insert v2 v4) y4) e1
-    (part_read columns (addition_insert_2) behind_columns any y1 y2 v2 (read (addition_of.Insert v2 v4) y4) e2
-    (λ v2. starts_addition_insert_2 v2)
-    (word_read (t.Keyword k.Values) (addition_insert_3 v2) any y2 y3 (read (addition_of.Insert v2 v4) y4) e3
-    (part_read tuple (addition_insert_4 v2) any any y3 y4 v4 (read (addition_of.Insert v2 v4) y4) e4
-    (λ v4. starts_addition_insert_4 v2 v4)
-    (reads_gives (addition_insert_made v2 v4) (addition_insert_made v2 v4) any y4 refl))))
+pub addition_insert_whole : (xs after_insert after_columns after_values rest : List Token) (listed : List (List ℕ))
+    (row : List Tree) →
+    xs ≡ (t.Keyword k.Insert) ∷ after_insert →
+    Reads columns behind_columns after_insert (read listed after_columns) →
+    after_columns ≡ (t.Keyword k.Values) ∷ after_values →
+    Reads tuple any after_values (read row rest) →
+    Reads addition_insert any xs (read (addition_of.Insert listed row) rest)
+unfolding addition_insert addition_after_insert addition_after_columns addition_after_values addition_after_tuple
+    addition_insert_made
+addition_insert_whole xs after_insert after_columns after_values rest listed row at_insert reads_columns at_values
+    reads_tuple =
+    word_read (t.Keyword k.Insert) addition_after_insert any xs after_insert (read (addition_of.Insert listed row) rest)
+    at_insert
+    (part_read columns addition_after_columns behind_columns any after_insert after_columns listed
+    (read (addition_of.Insert listed row) rest) reads_columns (λ listed. starts_addition_after_columns listed)
+    (word_read (t.Keyword k.Values) (addition_after_values listed) any after_columns after_values
+    (read (addition_of.Insert listed row) rest) at_values
+    (part_read tuple (addition_after_tuple listed) any any after_values rest row
+    (read (addition_of.Insert listed row) rest) reads_tuple (λ row. starts_addition_after_tuple listed row)
+    (reads_gives (addition_insert_made listed row) (addition_insert_made listed row) any rest refl))))
 
+-- DO NOTHING
 addition_nothing_made : Addition
 addition_nothing_made = addition_of.Nothing
 
-addition_nothing_2 : Lang Token Addition
-addition_nothing_2 = gives (addition_nothing_made)
+addition_after_nothing : Lang Token Addition
+addition_after_nothing = gives addition_nothing_made
 
-spelled_addition_nothing_2 : Spelled (addition_nothing_2)
-unfolding addition_nothing_2
-spelled_addition_nothing_2 = spelled_gives (addition_nothing_made)
+spelled_addition_after_nothing : Spelled addition_after_nothing
+unfolding addition_after_nothing
+spelled_addition_after_nothing = spelled_gives addition_nothing_made
 
-addition_nothing_1 : Lang Token Addition
-addition_nothing_1 = token (t.Keyword k.Nothing) (addition_nothing_2)
+addition_after_do : Lang Token Addition
+addition_after_do = token (t.Keyword k.Nothing) addition_after_nothing
 
-spelled_addition_nothing_1 : Spelled (addition_nothing_1)
-unfolding addition_nothing_1
-spelled_addition_nothing_1 = spelled_token (t.Keyword k.Nothing) (addition_nothing_2) (spelled_addition_nothing_2)
+spelled_addition_after_do : Spelled addition_after_do
+unfolding addition_after_do
+spelled_addition_after_do = spelled_token (t.Keyword k.Nothing) addition_after_nothing spelled_addition_after_nothing
 
-pub spelled_addition_nothing : Spelled (addition_nothing)
-unfolding addition_nothing addition_nothing_1 addition_nothing_2 addition_nothing_made
-spelled_addition_nothing = spelled_token (t.Keyword k.Do) (addition_nothing_1) (spelled_addition_nothing_1)
+pub spelled_addition_nothing : Spelled addition_nothing
+unfolding addition_nothing addition_after_do addition_after_nothing addition_nothing_made
+spelled_addition_nothing = spelled_token (t.Keyword k.Do) addition_after_do spelled_addition_after_do
 
-pub addition_nothing_at_0 : (xs : List Token) (l : ℕ) → Misses (t.Keyword k.Do) xs →
+pub addition_nothing_no_do : (xs : List Token) (l : ℕ) → Misses (t.Keyword k.Do) xs →
     l ≡ length xs →
-    Reads (addition_nothing) any xs (failed (Syntax l))
-unfolding addition_nothing addition_nothing_1 addition_nothing_2 addition_nothing_made
-addition_nothing_at_0 xs l e1 q =
-    word_missed (t.Keyword k.Do) (addition_nothing_1) any xs l e1 q (spelled_addition_nothing_1)
+    Reads addition_nothing any xs (failed (Syntax l))
+unfolding addition_nothing addition_after_do addition_after_nothing addition_nothing_made
+addition_nothing_no_do xs l miss q =
+    word_missed (t.Keyword k.Do) addition_after_do any xs l miss q spelled_addition_after_do
 
-pub addition_nothing_at_1 : (xs y1 : List Token) (l : ℕ) → xs ≡ (t.Keyword k.Do) ∷ y1 →
-    Misses (t.Keyword k.Nothing) y1 →
-    l ≡ length y1 →
-    Reads (addition_nothing) any xs (failed (Syntax l))
-unfolding addition_nothing addition_nothing_1 addition_nothing_2 addition_nothing_made
-addition_nothing_at_1 xs y1 l e1 e2 q = word_read (t.Keyword k.Do) (addition_nothing_1) any xs y1 (failed (Syntax l)) e1
-    (word_missed (t.Keyword k.Nothing) (addition_nothing_2) any y1 l e2 q (spelled_addition_nothing_2))
+pub addition_nothing_no_word : (xs after_do : List Token) (l : ℕ) → xs ≡ (t.Keyword k.Do) ∷ after_do →
+    Misses (t.Keyword k.Nothing) after_do →
+    l ≡ length after_do →
+    Reads addition_nothing any xs (failed (Syntax l))
+unfolding addition_nothing addition_after_do addition_after_nothing addition_nothing_made
+addition_nothing_no_word xs after_do l at_do miss q =
+    word_read (t.Keyword k.Do) addition_after_do any xs after_do (failed (Syntax l)) at_do
+    (word_missed (t.Keyword k.Nothing) addition_after_nothing any after_do l miss q spelled_addition_after_nothing)
 
-pub addition_nothing_at_2 : (xs y1 y2 : List Token) → xs ≡ (t.Keyword k.Do) ∷ y1 →
-    y1 ≡ (t.Keyword k.Nothing) ∷ y2 →
-    Reads (addition_nothing) any xs (read (addition_of.Nothing) y2)
-unfolding addition_nothing addition_nothing_1 addition_nothing_2 addition_nothing_made
-addition_nothing_at_2 xs y1 y2 e1 e2 =
-    word_read (t.Keyword k.Do) (addition_nothing_1) any xs y1 (read (addition_of.Nothing) y2) e1
-    (word_read (t.Keyword k.Nothing) (addition_nothing_2) any y1 y2 (read (addition_of.Nothing) y2) e2
-    (reads_gives (addition_nothing_made) (addition_nothing_made) any y2 refl))
+pub addition_nothing_whole : (xs after_do rest : List Token) → xs ≡ (t.Keyword k.Do) ∷ after_do →
+    after_do ≡ (t.Keyword k.Nothing) ∷ rest →
+    Reads addition_nothing any xs (read addition_of.Nothing rest)
+unfolding addition_nothing addition_after_do addition_after_nothing addition_nothing_made
+addition_nothing_whole xs after_do rest at_do at_nothing =
+    word_read (t.Keyword k.Do) addition_after_do any xs after_do (read addition_of.Nothing rest) at_do
+    (word_read (t.Keyword k.Nothing) addition_after_nothing any after_do rest (read addition_of.Nothing rest) at_nothing
+    (reads_gives addition_nothing_made addition_nothing_made any rest refl))
 
 spelled_addition : Spelled addition
 unfolding addition
@@ -292,10 +315,11 @@ addition_left xs ys o e r =
 
 addition_right : (xs : List Token) (o : Seen Token Addition) → Misses (t.Keyword k.Insert) xs →
     Reads addition_nothing any xs o → Reads addition any xs o
-unfolding addition addition_insert addition_insert_1 addition_insert_2 addition_insert_3 addition_insert_4 addition_insert_made
+unfolding addition addition_insert addition_after_insert addition_after_columns addition_after_values
+    addition_after_tuple addition_insert_made
 addition_right xs o miss r =
-    (leads_right (word k.Insert addition_insert_1) addition_nothing any xs
-    (bars_token any (t.Keyword k.Insert) addition_insert_1 0 xs (λ n. miss.misses n))).to o r
+    (leads_right (word k.Insert addition_after_insert) addition_nothing any xs
+    (bars_token any (t.Keyword k.Insert) addition_after_insert 0 xs (λ n. miss.misses n))).to o r
 
 pub addition_insert_read : (xs ys zs : List Token) (v : Addition) → xs ≡ t.Keyword k.Insert ∷ ys →
     Reads addition_insert any xs (read v zs) → Reads addition any xs (read v zs)
@@ -312,25 +336,6 @@ addition_nothing_read xs ys v miss r = addition_right xs (read v ys) miss r
 pub addition_nothing_failed : (xs : List Token) (f : Fault) → Misses (t.Keyword k.Insert) xs →
     Reads addition_nothing any xs (failed f) → Reads addition any xs (failed f)
 addition_nothing_failed xs f miss r = addition_right xs (failed f) miss r
-
--- [AND expr]
-guard_below : (o : Option Token) → behind_guard o ≡ true → behind_expr o ≡ true
-unfolding behind_guard
-guard_below o e = and_left (behind_expr o) (not (is_word k.And o)) e
-
-pub guard_read : (xs ys zs : List Token) (v : Tree) → xs ≡ t.Keyword k.And ∷ ys →
-    Reads expr behind_expr ys (read v zs) → Reads (optional (word k.And expr)) behind_guard xs (read (Some v) zs)
-guard_read xs ys zs v e r =
-    some_read (t.Keyword k.And) expr behind_expr behind_guard guard_below xs ys zs v and_goes_on_guard e r
-
-pub guard_failed : (xs ys : List Token) (f : Fault) → xs ≡ t.Keyword k.And ∷ ys → Reads expr behind_expr ys (failed f) →
-    Reads (optional (word k.And expr)) behind_guard xs (failed f)
-guard_failed xs ys f e r =
-    some_failed (t.Keyword k.And) expr behind_expr behind_guard guard_below xs ys f and_goes_on_guard e r
-
-pub guard_none : (xs : List Token) → Misses (t.Keyword k.And) xs →
-    Reads (optional (word k.And expr)) behind_guard xs (read None xs)
-guard_none xs miss = none_read (t.Keyword k.And) expr behind_guard xs miss
 
 opens_then : Option Token → Bool
 opens_then (Some (t.Keyword k.And)) = true
@@ -380,111 +385,143 @@ module _ {A : Type 0} (act : Lang Token A) (g : Option Token → Bool) (make : O
       (starts_optional (t.Keyword k.And) expr opens_then refl)
       (λ c. starts_token opens_then g (t.Keyword k.Then) (then_act c) refl)
 
-  then_no_guard : (xs : List Token) (f : Fault) → Reads (optional (word k.And expr)) behind_guard xs (failed f) →
+  then_no_guard : (xs : List Token) (f : Fault) →
+      Reads (optional (word k.And expr)) behind_guard xs (failed f) →
       Reads (then act make) g xs (failed f)
   unfolding then then_word then_act then_made
-  then_no_guard xs f r =
-      reads_bind_failed (optional (word k.And expr)) then_word behind_guard g xs f r starts_then_word spelled_then_word
+  then_no_guard xs f fails =
+      reads_bind_failed (optional (word k.And expr)) then_word behind_guard g xs f fails starts_then_word
+      spelled_then_word
 
-  then_no_then : (xs ys : List Token) (c : Option Tree) (l : ℕ) →
-      Reads (optional (word k.And expr)) behind_guard xs (read c ys) → Misses (t.Keyword k.Then) ys → l ≡ length ys →
+  then_no_then : (xs after_guard : List Token) (guard : Option Tree) (l : ℕ) →
+      Reads (optional (word k.And expr)) behind_guard xs (read guard after_guard) →
+      Misses (t.Keyword k.Then) after_guard →
+      l ≡ length after_guard →
       Reads (then act make) g xs (failed (Syntax l))
   unfolding then then_word then_act then_made
-  then_no_then xs ys c l r miss q =
-      part_read (optional (word k.And expr)) then_word behind_guard g xs ys c (failed (Syntax l)) r starts_then_word
-      (word_missed (t.Keyword k.Then) (then_act c) g ys l miss q (spelled_then_act c))
+  then_no_then xs after_guard guard l reads_guard miss q =
+      part_read (optional (word k.And expr)) then_word behind_guard g xs after_guard guard (failed (Syntax l))
+      reads_guard starts_then_word
+      (word_missed (t.Keyword k.Then) (then_act guard) g after_guard l miss q (spelled_then_act guard))
 
-  then_no_act : (xs ys zs : List Token) (c : Option Tree) (f : Fault) →
-      Reads (optional (word k.And expr)) behind_guard xs (read c ys) → ys ≡ t.Keyword k.Then ∷ zs →
-      Reads act g zs (failed f) → Reads (then act make) g xs (failed f)
+  then_no_act : (xs after_guard after_then : List Token) (guard : Option Tree) (f : Fault) →
+      Reads (optional (word k.And expr)) behind_guard xs (read guard after_guard) →
+      after_guard ≡ t.Keyword k.Then ∷ after_then →
+      Reads act g after_then (failed f) →
+      Reads (then act make) g xs (failed f)
   unfolding then then_word then_act then_made
-  then_no_act xs ys zs c f r e q =
-      part_read (optional (word k.And expr)) then_word behind_guard g xs ys c (failed f) r starts_then_word
-      (word_read (t.Keyword k.Then) (then_act c) g ys zs (failed f) e
-      (reads_bind_failed act (then_made c) g g zs f q (starts_then_made c) (spelled_then_made c)))
+  then_no_act xs after_guard after_then guard f reads_guard at_then fails =
+      part_read (optional (word k.And expr)) then_word behind_guard g xs after_guard guard (failed f) reads_guard
+      starts_then_word
+      (word_read (t.Keyword k.Then) (then_act guard) g after_guard after_then (failed f) at_then
+      (reads_bind_failed act (then_made guard) g g after_then f fails (starts_then_made guard)
+      (spelled_then_made guard)))
 
-  then_read : (xs ys zs ws : List Token) (c : Option Tree) (a : A) →
-      Reads (optional (word k.And expr)) behind_guard xs (read c ys) → ys ≡ t.Keyword k.Then ∷ zs →
-      Reads act g zs (read a ws) → Reads (then act make) g xs (read (make c a) ws)
+  then_read : (xs after_guard after_then rest : List Token) (guard : Option Tree) (action : A) →
+      Reads (optional (word k.And expr)) behind_guard xs (read guard after_guard) →
+      after_guard ≡ t.Keyword k.Then ∷ after_then →
+      Reads act g after_then (read action rest) →
+      Reads (then act make) g xs (read (make guard action) rest)
   unfolding then then_word then_act then_made
-  then_read xs ys zs ws c a r e q =
-      part_read (optional (word k.And expr)) then_word behind_guard g xs ys c (read (make c a) ws) r starts_then_word
-      (word_read (t.Keyword k.Then) (then_act c) g ys zs (read (make c a) ws) e
-      (part_read act (then_made c) g g zs ws a (read (make c a) ws) q (starts_then_made c)
-      (reads_gives (make c a) (make c a) g ws refl)))
+  then_read xs after_guard after_then rest guard action reads_guard at_then reads_action =
+      part_read (optional (word k.And expr)) then_word behind_guard g xs after_guard guard
+      (read (make guard action) rest) reads_guard starts_then_word
+      (word_read (t.Keyword k.Then) (then_act guard) g after_guard after_then (read (make guard action) rest) at_then
+      (part_read act (then_made guard) g g after_then rest action (read (make guard action) rest) reads_action
+      (starts_then_made guard) (reads_gives (make guard action) (make guard action) g rest refl)))
 
-pub matched_no_guard : (xs : List Token) (f : Fault) → Reads (optional (word k.And expr)) behind_guard xs (failed f) →
+pub matched_no_guard : (xs : List Token) (f : Fault) →
+    Reads (optional (word k.And expr)) behind_guard xs (failed f) →
     Reads (then change when_of.Matched) behind_sets xs (failed f)
-matched_no_guard xs f r = then_no_guard change behind_sets when_of.Matched spelled_the_change xs f r
+matched_no_guard xs f fails = then_no_guard change behind_sets when_of.Matched spelled_the_change xs f fails
 
-pub matched_no_then : (xs ys : List Token) (c : Option Tree) (l : ℕ) →
-    Reads (optional (word k.And expr)) behind_guard xs (read c ys) → Misses (t.Keyword k.Then) ys → l ≡ length ys →
+pub matched_no_then : (xs after_guard : List Token) (guard : Option Tree) (l : ℕ) →
+    Reads (optional (word k.And expr)) behind_guard xs (read guard after_guard) →
+    Misses (t.Keyword k.Then) after_guard →
+    l ≡ length after_guard →
     Reads (then change when_of.Matched) behind_sets xs (failed (Syntax l))
-matched_no_then xs ys c l r miss q =
-    then_no_then change behind_sets when_of.Matched spelled_the_change xs ys c l r miss q
+matched_no_then xs after_guard guard l reads_guard miss q =
+    then_no_then change behind_sets when_of.Matched spelled_the_change xs after_guard guard l reads_guard miss q
 
-pub matched_no_act : (xs ys zs : List Token) (c : Option Tree) (f : Fault) →
-    Reads (optional (word k.And expr)) behind_guard xs (read c ys) → ys ≡ t.Keyword k.Then ∷ zs →
-    Reads change behind_sets zs (failed f) →
+pub matched_no_act : (xs after_guard after_then : List Token) (guard : Option Tree) (f : Fault) →
+    Reads (optional (word k.And expr)) behind_guard xs (read guard after_guard) →
+    after_guard ≡ t.Keyword k.Then ∷ after_then →
+    Reads change behind_sets after_then (failed f) →
     Reads (then change when_of.Matched) behind_sets xs (failed f)
-matched_no_act xs ys zs c f r e q = then_no_act change behind_sets when_of.Matched spelled_the_change xs ys zs c f r e q
+matched_no_act xs after_guard after_then guard f reads_guard at_then fails =
+    then_no_act change behind_sets when_of.Matched spelled_the_change xs after_guard after_then guard f reads_guard
+    at_then fails
 
-pub matched_read : (xs ys zs ws : List Token) (c : Option Tree) (a : Change) →
-    Reads (optional (word k.And expr)) behind_guard xs (read c ys) → ys ≡ t.Keyword k.Then ∷ zs →
-    Reads change behind_sets zs (read a ws) →
-    Reads (then change when_of.Matched) behind_sets xs (read (when_of.Matched c a) ws)
-matched_read xs ys zs ws c a r e q =
-    then_read change behind_sets when_of.Matched spelled_the_change xs ys zs ws c a r e q
+pub matched_read : (xs after_guard after_then rest : List Token) (guard : Option Tree) (action : Change) →
+    Reads (optional (word k.And expr)) behind_guard xs (read guard after_guard) →
+    after_guard ≡ t.Keyword k.Then ∷ after_then →
+    Reads change behind_sets after_then (read action rest) →
+    Reads (then change when_of.Matched) behind_sets xs (read (when_of.Matched guard action) rest)
+matched_read xs after_guard after_then rest guard action reads_guard at_then reads_action =
+    then_read change behind_sets when_of.Matched spelled_the_change xs after_guard after_then rest guard action
+    reads_guard at_then reads_action
 
 pub not_by_source_no_guard : (xs : List Token) (f : Fault) →
     Reads (optional (word k.And expr)) behind_guard xs (failed f) →
     Reads (then change when_of.NotBySource) behind_sets xs (failed f)
-not_by_source_no_guard xs f r = then_no_guard change behind_sets when_of.NotBySource spelled_the_change xs f r
+not_by_source_no_guard xs f fails = then_no_guard change behind_sets when_of.NotBySource spelled_the_change xs f fails
 
-pub not_by_source_no_then : (xs ys : List Token) (c : Option Tree) (l : ℕ) →
-    Reads (optional (word k.And expr)) behind_guard xs (read c ys) → Misses (t.Keyword k.Then) ys → l ≡ length ys →
+pub not_by_source_no_then : (xs after_guard : List Token) (guard : Option Tree) (l : ℕ) →
+    Reads (optional (word k.And expr)) behind_guard xs (read guard after_guard) →
+    Misses (t.Keyword k.Then) after_guard →
+    l ≡ length after_guard →
     Reads (then change when_of.NotBySource) behind_sets xs (failed (Syntax l))
-not_by_source_no_then xs ys c l r miss q =
-    then_no_then change behind_sets when_of.NotBySource spelled_the_change xs ys c l r miss q
+not_by_source_no_then xs after_guard guard l reads_guard miss q =
+    then_no_then change behind_sets when_of.NotBySource spelled_the_change xs after_guard guard l reads_guard miss q
 
-pub not_by_source_no_act : (xs ys zs : List Token) (c : Option Tree) (f : Fault) →
-    Reads (optional (word k.And expr)) behind_guard xs (read c ys) → ys ≡ t.Keyword k.Then ∷ zs →
-    Reads change behind_sets zs (failed f) →
+pub not_by_source_no_act : (xs after_guard after_then : List Token) (guard : Option Tree) (f : Fault) →
+    Reads (optional (word k.And expr)) behind_guard xs (read guard after_guard) →
+    after_guard ≡ t.Keyword k.Then ∷ after_then →
+    Reads change behind_sets after_then (failed f) →
     Reads (then change when_of.NotBySource) behind_sets xs (failed f)
-not_by_source_no_act xs ys zs c f r e q =
-    then_no_act change behind_sets when_of.NotBySource spelled_the_change xs ys zs c f r e q
+not_by_source_no_act xs after_guard after_then guard f reads_guard at_then fails =
+    then_no_act change behind_sets when_of.NotBySource spelled_the_change xs after_guard after_then guard f reads_guard
+    at_then fails
 
-pub not_by_source_read : (xs ys zs ws : List Token) (c : Option Tree) (a : Change) →
-    Reads (optional (word k.And expr)) behind_guard xs (read c ys) → ys ≡ t.Keyword k.Then ∷ zs →
-    Reads change behind_sets zs (read a ws) →
-    Reads (then change when_of.NotBySource) behind_sets xs (read (when_of.NotBySource c a) ws)
-not_by_source_read xs ys zs ws c a r e q =
-    then_read change behind_sets when_of.NotBySource spelled_the_change xs ys zs ws c a r e q
+pub not_by_source_read : (xs after_guard after_then rest : List Token) (guard : Option Tree) (action : Change) →
+    Reads (optional (word k.And expr)) behind_guard xs (read guard after_guard) →
+    after_guard ≡ t.Keyword k.Then ∷ after_then →
+    Reads change behind_sets after_then (read action rest) →
+    Reads (then change when_of.NotBySource) behind_sets xs (read (when_of.NotBySource guard action) rest)
+not_by_source_read xs after_guard after_then rest guard action reads_guard at_then reads_action =
+    then_read change behind_sets when_of.NotBySource spelled_the_change xs after_guard after_then rest guard action
+    reads_guard at_then reads_action
 
 pub not_by_target_no_guard : (xs : List Token) (f : Fault) →
     Reads (optional (word k.And expr)) behind_guard xs (failed f) →
     Reads (then addition when_of.NotByTarget) any xs (failed f)
-not_by_target_no_guard xs f r = then_no_guard addition any when_of.NotByTarget spelled_addition xs f r
+not_by_target_no_guard xs f fails = then_no_guard addition any when_of.NotByTarget spelled_addition xs f fails
 
-pub not_by_target_no_then : (xs ys : List Token) (c : Option Tree) (l : ℕ) →
-    Reads (optional (word k.And expr)) behind_guard xs (read c ys) → Misses (t.Keyword k.Then) ys → l ≡ length ys →
+pub not_by_target_no_then : (xs after_guard : List Token) (guard : Option Tree) (l : ℕ) →
+    Reads (optional (word k.And expr)) behind_guard xs (read guard after_guard) →
+    Misses (t.Keyword k.Then) after_guard →
+    l ≡ length after_guard →
     Reads (then addition when_of.NotByTarget) any xs (failed (Syntax l))
-not_by_target_no_then xs ys c l r miss q =
-    then_no_then addition any when_of.NotByTarget spelled_addition xs ys c l r miss q
+not_by_target_no_then xs after_guard guard l reads_guard miss q =
+    then_no_then addition any when_of.NotByTarget spelled_addition xs after_guard guard l reads_guard miss q
 
-pub not_by_target_no_act : (xs ys zs : List Token) (c : Option Tree) (f : Fault) →
-    Reads (optional (word k.And expr)) behind_guard xs (read c ys) → ys ≡ t.Keyword k.Then ∷ zs →
-    Reads addition any zs (failed f) →
+pub not_by_target_no_act : (xs after_guard after_then : List Token) (guard : Option Tree) (f : Fault) →
+    Reads (optional (word k.And expr)) behind_guard xs (read guard after_guard) →
+    after_guard ≡ t.Keyword k.Then ∷ after_then →
+    Reads addition any after_then (failed f) →
     Reads (then addition when_of.NotByTarget) any xs (failed f)
-not_by_target_no_act xs ys zs c f r e q =
-    then_no_act addition any when_of.NotByTarget spelled_addition xs ys zs c f r e q
+not_by_target_no_act xs after_guard after_then guard f reads_guard at_then fails =
+    then_no_act addition any when_of.NotByTarget spelled_addition xs after_guard after_then guard f reads_guard
+    at_then fails
 
-pub not_by_target_read : (xs ys zs ws : List Token) (c : Option Tree) (a : Addition) →
-    Reads (optional (word k.And expr)) behind_guard xs (read c ys) → ys ≡ t.Keyword k.Then ∷ zs →
-    Reads addition any zs (read a ws) →
-    Reads (then addition when_of.NotByTarget) any xs (read (when_of.NotByTarget c a) ws)
-not_by_target_read xs ys zs ws c a r e q =
-    then_read addition any when_of.NotByTarget spelled_addition xs ys zs ws c a r e q
+pub not_by_target_read : (xs after_guard after_then rest : List Token) (guard : Option Tree) (action : Addition) →
+    Reads (optional (word k.And expr)) behind_guard xs (read guard after_guard) →
+    after_guard ≡ t.Keyword k.Then ∷ after_then →
+    Reads addition any after_then (read action rest) →
+    Reads (then addition when_of.NotByTarget) any xs (read (when_of.NotByTarget guard action) rest)
+not_by_target_read xs after_guard after_then rest guard action reads_guard at_then reads_action =
+    then_read addition any when_of.NotByTarget spelled_addition xs after_guard after_then rest guard action reads_guard
+    at_then reads_action
 
 spelled_by_whom : Spelled by_whom
 unfolding by_whom
@@ -732,252 +769,335 @@ starts_whens b g h =
     starts_bind b any g (word k.When when_behind) first_when (starts_token b any (t.Keyword k.When) when_behind h)
     (λ w. starts_any (first_when w) g)
 
-merge_made : (v2 : TableRef) → (v4 : Source) → (v6 : Tree) → (v7 : List When) → (v8 : List Item) → Merge
-merge_made v2 v4 v6 v7 v8 = record { target = v2; source = v4; on = v6; clauses = v7; returning = v8 }
+-- INTO name [[AS] name] USING source ON expr when {when} [RETURNING items], behind MERGE
+merge_made : (target : TableRef) → (origin : Source) → (matching : Tree) → (clauses : List When) →
+    (returned : List Item) → Merge
+merge_made target origin matching clauses returned =
+    record { target = target; source = origin; on = matching; clauses = clauses; returning = returned }
 
-merge_8 : (v2 : TableRef) → (v4 : Source) → (v6 : Tree) → (v7 : List When) → (v8 : List Item) → Lang Token Merge
-merge_8 v2 v4 v6 v7 v8 = gives (merge_made v2 v4 v6 v7 v8)
+merge_after_returning : (target : TableRef) → (origin : Source) → (matching : Tree) → (clauses : List When) →
+    (returned : List Item) → Lang Token Merge
+merge_after_returning target origin matching clauses returned =
+    gives (merge_made target origin matching clauses returned)
 
-spelled_merge_8 : (v2 : TableRef) → (v4 : Source) → (v6 : Tree) → (v7 : List When) → (v8 : List Item) →
-    Spelled (merge_8 v2 v4 v6 v7 v8)
-unfolding merge_8
-spelled_merge_8 v2 v4 v6 v7 v8 = spelled_gives (merge_made v2 v4 v6 v7 v8)
+spelled_merge_after_returning : (target : TableRef) → (origin : Source) → (matching : Tree) → (clauses : List When) →
+    (returned : List Item) → Spelled (merge_after_returning target origin matching clauses returned)
+unfolding merge_after_returning
+spelled_merge_after_returning target origin matching clauses returned =
+    spelled_gives (merge_made target origin matching clauses returned)
 
-merge_7 : (v2 : TableRef) → (v4 : Source) → (v6 : Tree) → (v7 : List When) → Lang Token Merge
-merge_7 v2 v4 v6 v7 = bind returning (merge_8 v2 v4 v6 v7)
+merge_after_whens : (target : TableRef) → (origin : Source) → (matching : Tree) → (clauses : List When) →
+    Lang Token Merge
+merge_after_whens target origin matching clauses = bind returning (merge_after_returning target origin matching clauses)
 
-spelled_merge_7 : (v2 : TableRef) → (v4 : Source) → (v6 : Tree) → (v7 : List When) → Spelled (merge_7 v2 v4 v6 v7)
-unfolding merge_7
-spelled_merge_7 v2 v4 v6 v7 =
-    spelled_bind returning (merge_8 v2 v4 v6 v7) spelled_returning (λ u. spelled_merge_8 v2 v4 v6 v7 u)
+spelled_merge_after_whens : (target : TableRef) → (origin : Source) → (matching : Tree) → (clauses : List When) →
+    Spelled (merge_after_whens target origin matching clauses)
+unfolding merge_after_whens
+spelled_merge_after_whens target origin matching clauses =
+    spelled_bind returning (merge_after_returning target origin matching clauses) spelled_returning
+    (λ returned. spelled_merge_after_returning target origin matching clauses returned)
 
-merge_6 : (v2 : TableRef) → (v4 : Source) → (v6 : Tree) → Lang Token Merge
-merge_6 v2 v4 v6 = bind whens (merge_7 v2 v4 v6)
+merge_after_condition : (target : TableRef) → (origin : Source) → (matching : Tree) → Lang Token Merge
+merge_after_condition target origin matching = bind whens (merge_after_whens target origin matching)
 
-spelled_merge_6 : (v2 : TableRef) → (v4 : Source) → (v6 : Tree) → Spelled (merge_6 v2 v4 v6)
-unfolding merge_6
-spelled_merge_6 v2 v4 v6 = spelled_bind whens (merge_7 v2 v4 v6) spelled_whens (λ u. spelled_merge_7 v2 v4 v6 u)
+spelled_merge_after_condition : (target : TableRef) → (origin : Source) → (matching : Tree) →
+    Spelled (merge_after_condition target origin matching)
+unfolding merge_after_condition
+spelled_merge_after_condition target origin matching =
+    spelled_bind whens (merge_after_whens target origin matching) spelled_whens
+    (λ clauses. spelled_merge_after_whens target origin matching clauses)
 
-merge_5 : (v2 : TableRef) → (v4 : Source) → Lang Token Merge
-merge_5 v2 v4 = bind expr (merge_6 v2 v4)
+merge_after_on : (target : TableRef) → (origin : Source) → Lang Token Merge
+merge_after_on target origin = bind expr (merge_after_condition target origin)
 
-spelled_merge_5 : (v2 : TableRef) → (v4 : Source) → Spelled (merge_5 v2 v4)
-unfolding merge_5
-spelled_merge_5 v2 v4 = spelled_bind expr (merge_6 v2 v4) spelled_expr (λ u. spelled_merge_6 v2 v4 u)
+spelled_merge_after_on : (target : TableRef) → (origin : Source) → Spelled (merge_after_on target origin)
+unfolding merge_after_on
+spelled_merge_after_on target origin =
+    spelled_bind expr (merge_after_condition target origin) spelled_expr
+    (λ matching. spelled_merge_after_condition target origin matching)
 
-merge_4 : (v2 : TableRef) → (v4 : Source) → Lang Token Merge
-merge_4 v2 v4 = token (t.Keyword k.On) (merge_5 v2 v4)
+merge_after_source : (target : TableRef) → (origin : Source) → Lang Token Merge
+merge_after_source target origin = token (t.Keyword k.On) (merge_after_on target origin)
 
-spelled_merge_4 : (v2 : TableRef) → (v4 : Source) → Spelled (merge_4 v2 v4)
-unfolding merge_4
-spelled_merge_4 v2 v4 = spelled_token (t.Keyword k.On) (merge_5 v2 v4) (spelled_merge_5 v2 v4)
+spelled_merge_after_source : (target : TableRef) → (origin : Source) → Spelled (merge_after_source target origin)
+unfolding merge_after_source
+spelled_merge_after_source target origin =
+    spelled_token (t.Keyword k.On) (merge_after_on target origin) (spelled_merge_after_on target origin)
 
-merge_3 : (v2 : TableRef) → Lang Token Merge
-merge_3 v2 = bind (source 0) (merge_4 v2)
+merge_after_using : (target : TableRef) → Lang Token Merge
+merge_after_using target = bind (source 0) (merge_after_source target)
 
-spelled_merge_3 : (v2 : TableRef) → Spelled (merge_3 v2)
-unfolding merge_3
-spelled_merge_3 v2 = spelled_bind (source 0) (merge_4 v2) (spelled_source 0) (λ u. spelled_merge_4 v2 u)
+spelled_merge_after_using : (target : TableRef) → Spelled (merge_after_using target)
+unfolding merge_after_using
+spelled_merge_after_using target =
+    spelled_bind (source 0) (merge_after_source target) (spelled_source 0)
+    (λ origin. spelled_merge_after_source target origin)
 
-merge_2 : (v2 : TableRef) → Lang Token Merge
-merge_2 v2 = token (t.Keyword k.Using) (merge_3 v2)
+merge_after_target : (target : TableRef) → Lang Token Merge
+merge_after_target target = token (t.Keyword k.Using) (merge_after_using target)
 
-spelled_merge_2 : (v2 : TableRef) → Spelled (merge_2 v2)
-unfolding merge_2
-spelled_merge_2 v2 = spelled_token (t.Keyword k.Using) (merge_3 v2) (spelled_merge_3 v2)
+spelled_merge_after_target : (target : TableRef) → Spelled (merge_after_target target)
+unfolding merge_after_target
+spelled_merge_after_target target =
+    spelled_token (t.Keyword k.Using) (merge_after_using target) (spelled_merge_after_using target)
 
-merge_1 : Lang Token Merge
-merge_1 = bind table_ref (merge_2)
+merge_after_into : Lang Token Merge
+merge_after_into = bind table_ref merge_after_target
 
-spelled_merge_1 : Spelled (merge_1)
-unfolding merge_1
-spelled_merge_1 = spelled_bind table_ref (merge_2) spelled_table_ref (λ u. spelled_merge_2 u)
+spelled_merge_after_into : Spelled merge_after_into
+unfolding merge_after_into
+spelled_merge_after_into =
+    spelled_bind table_ref merge_after_target spelled_table_ref (λ target. spelled_merge_after_target target)
 
-pub spelled_merge : Spelled (merge)
-unfolding merge merge_1 merge_2 merge_3 merge_4 merge_5 merge_6 merge_7 merge_8 merge_made
-spelled_merge = spelled_token (t.Keyword k.Into) (merge_1) (spelled_merge_1)
+pub spelled_merge : Spelled merge
+unfolding merge merge_after_into merge_after_target merge_after_using merge_after_source merge_after_on
+    merge_after_condition merge_after_whens merge_after_returning merge_made
+spelled_merge = spelled_token (t.Keyword k.Into) merge_after_into spelled_merge_after_into
 
-starts_merge_2 : (v2 : TableRef) → Starts behind_table (merge_2 v2) behind_statement
-unfolding merge_1 merge_2 merge_3 merge_4 merge_5 merge_6 merge_7 merge_8 merge_made
-starts_merge_2 v2 = starts_token behind_table behind_statement (t.Keyword k.Using) (merge_3 v2) using_behind_table
+starts_merge_after_target : (target : TableRef) → Starts behind_table (merge_after_target target) behind_statement
+unfolding merge_after_into merge_after_target merge_after_using merge_after_source merge_after_on merge_after_condition
+    merge_after_whens merge_after_returning merge_made
+starts_merge_after_target target =
+    starts_token behind_table behind_statement (t.Keyword k.Using) (merge_after_using target) using_behind_table
 
-starts_merge_4 : (v2 : TableRef) → (v4 : Source) → Starts behind_table (merge_4 v2 v4) behind_statement
-unfolding merge_1 merge_2 merge_3 merge_4 merge_5 merge_6 merge_7 merge_8 merge_made
-starts_merge_4 v2 v4 = starts_token behind_table behind_statement (t.Keyword k.On) (merge_5 v2 v4) on_behind_table
+starts_merge_after_source : (target : TableRef) → (origin : Source) →
+    Starts behind_table (merge_after_source target origin) behind_statement
+unfolding merge_after_into merge_after_target merge_after_using merge_after_source merge_after_on merge_after_condition
+    merge_after_whens merge_after_returning merge_made
+starts_merge_after_source target origin =
+    starts_token behind_table behind_statement (t.Keyword k.On) (merge_after_on target origin) on_behind_table
 
-starts_merge_6 : (v2 : TableRef) → (v4 : Source) → (v6 : Tree) → Starts behind_expr (merge_6 v2 v4 v6) behind_statement
-unfolding merge_1 merge_2 merge_3 merge_4 merge_5 merge_6 merge_7 merge_8 merge_made
-starts_merge_6 v2 v4 v6 =
-    starts_bind behind_expr any behind_statement whens (merge_7 v2 v4 v6)
-    (starts_whens behind_expr any when_behind_expr) (λ v7. starts_any (merge_7 v2 v4 v6 v7) behind_statement)
+starts_merge_after_condition : (target : TableRef) → (origin : Source) → (matching : Tree) →
+    Starts behind_expr (merge_after_condition target origin matching) behind_statement
+unfolding merge_after_into merge_after_target merge_after_using merge_after_source merge_after_on merge_after_condition
+    merge_after_whens merge_after_returning merge_made
+starts_merge_after_condition target origin matching =
+    starts_bind behind_expr any behind_statement whens (merge_after_whens target origin matching)
+    (starts_whens behind_expr any when_behind_expr)
+    (λ clauses. starts_any (merge_after_whens target origin matching clauses) behind_statement)
 
-starts_merge_7 : (v2 : TableRef) → (v4 : Source) → (v6 : Tree) → (v7 : List When) →
-    Starts behind_whens (merge_7 v2 v4 v6 v7) behind_statement
-unfolding merge_1 merge_2 merge_3 merge_4 merge_5 merge_6 merge_7 merge_8 merge_made
-starts_merge_7 v2 v4 v6 v7 =
-    starts_bind behind_whens behind_whens behind_statement returning (merge_8 v2 v4 v6 v7)
-    (starts_returning behind_whens returning_behind_whens) (λ v8. starts_gives behind_whens behind_statement
-    (merge_made v2 v4 v6 v7 v8) (end_behind_whens))
+starts_merge_after_whens : (target : TableRef) → (origin : Source) → (matching : Tree) → (clauses : List When) →
+    Starts behind_whens (merge_after_whens target origin matching clauses) behind_statement
+unfolding merge_after_into merge_after_target merge_after_using merge_after_source merge_after_on merge_after_condition
+    merge_after_whens merge_after_returning merge_made
+starts_merge_after_whens target origin matching clauses =
+    starts_bind behind_whens behind_whens behind_statement returning
+    (merge_after_returning target origin matching clauses) (starts_returning behind_whens returning_behind_whens)
+    (λ returned. starts_gives behind_whens behind_statement (merge_made target origin matching clauses returned)
+    end_behind_whens)
 
-starts_merge_8 : (v2 : TableRef) → (v4 : Source) → (v6 : Tree) → (v7 : List When) → (v8 : List Item) →
-    Starts behind_returning (merge_8 v2 v4 v6 v7 v8) behind_statement
-unfolding merge_1 merge_2 merge_3 merge_4 merge_5 merge_6 merge_7 merge_8 merge_made
-starts_merge_8 v2 v4 v6 v7 v8 =
-    starts_gives behind_returning behind_statement (merge_made v2 v4 v6 v7 v8) (end_behind_returning)
+starts_merge_after_returning : (target : TableRef) → (origin : Source) → (matching : Tree) → (clauses : List When) →
+    (returned : List Item) →
+    Starts behind_returning (merge_after_returning target origin matching clauses returned) behind_statement
+unfolding merge_after_into merge_after_target merge_after_using merge_after_source merge_after_on merge_after_condition
+    merge_after_whens merge_after_returning merge_made
+starts_merge_after_returning target origin matching clauses returned =
+    starts_gives behind_returning behind_statement (merge_made target origin matching clauses returned)
+    end_behind_returning
 
-pub merge_at_0 : (xs : List Token) (l : ℕ) → Misses (t.Keyword k.Into) xs →
+pub merge_no_into : (xs : List Token) (l : ℕ) → Misses (t.Keyword k.Into) xs →
     l ≡ length xs →
-    Reads (merge) behind_statement xs (failed (Syntax l))
-unfolding merge merge_1 merge_2 merge_3 merge_4 merge_5 merge_6 merge_7 merge_8 merge_made
-merge_at_0 xs l e1 q = word_missed (t.Keyword k.Into) (merge_1) behind_statement xs l e1 q (spelled_merge_1)
+    Reads merge behind_statement xs (failed (Syntax l))
+unfolding merge merge_after_into merge_after_target merge_after_using merge_after_source merge_after_on
+    merge_after_condition merge_after_whens merge_after_returning merge_made
+merge_no_into xs l miss q =
+    word_missed (t.Keyword k.Into) merge_after_into behind_statement xs l miss q spelled_merge_after_into
 
-pub merge_at_1 : (xs y1 : List Token) (f : Fault) → xs ≡ (t.Keyword k.Into) ∷ y1 →
-    Reads table_ref behind_table y1 (failed f) →
-    Reads (merge) behind_statement xs (failed f)
-unfolding merge merge_1 merge_2 merge_3 merge_4 merge_5 merge_6 merge_7 merge_8 merge_made
-merge_at_1 xs y1 f e1 e2 = word_read (t.Keyword k.Into) (merge_1) behind_statement xs y1 (failed f) e1
-    (reads_bind_failed table_ref (merge_2) behind_table behind_statement y1 f e2 (λ v2. starts_merge_2 v2)
-    (λ v2. spelled_merge_2 v2))
+pub merge_target_failed : (xs after_into : List Token) (f : Fault) → xs ≡ (t.Keyword k.Into) ∷ after_into →
+    Reads table_ref behind_table after_into (failed f) →
+    Reads merge behind_statement xs (failed f)
+unfolding merge merge_after_into merge_after_target merge_after_using merge_after_source merge_after_on
+    merge_after_condition merge_after_whens merge_after_returning merge_made
+merge_target_failed xs after_into f at_into fails =
+    word_read (t.Keyword k.Into) merge_after_into behind_statement xs after_into (failed f) at_into
+    (reads_bind_failed table_ref merge_after_target behind_table behind_statement after_into f fails
+    (λ target. starts_merge_after_target target) (λ target. spelled_merge_after_target target))
 
-pub merge_at_2 : (xs y1 y2 : List Token) (v2 : TableRef) (l : ℕ) → xs ≡ (t.Keyword k.Into) ∷ y1 →
-    Reads table_ref behind_table y1 (read v2 y2) →
-    Misses (t.Keyword k.Using) y2 →
-    l ≡ length y2 →
-    Reads (merge) behind_statement xs (failed (Syntax l))
-unfolding merge merge_1 merge_2 merge_3 merge_4 merge_5 merge_6 merge_7 merge_8 merge_made
-merge_at_2 xs y1 y2 v2 l e1 e2 e3 q =
-    word_read (t.Keyword k.Into) (merge_1) behind_statement xs y1 (failed (Syntax l)) e1
-    (part_read table_ref (merge_2) behind_table behind_statement y1 y2 v2 (failed (Syntax l)) e2
-    (λ v2. starts_merge_2 v2)
-    (word_missed (t.Keyword k.Using) (merge_3 v2) behind_statement y2 l e3 q (spelled_merge_3 v2)))
+pub merge_no_using : (xs after_into after_target : List Token) (target : TableRef) (l : ℕ) →
+    xs ≡ (t.Keyword k.Into) ∷ after_into →
+    Reads table_ref behind_table after_into (read target after_target) →
+    Misses (t.Keyword k.Using) after_target →
+    l ≡ length after_target →
+    Reads merge behind_statement xs (failed (Syntax l))
+unfolding merge merge_after_into merge_after_target merge_after_using merge_after_source merge_after_on
+    merge_after_condition merge_after_whens merge_after_returning merge_made
+merge_no_using xs after_into after_target target l at_into reads_target miss q =
+    word_read (t.Keyword k.Into) merge_after_into behind_statement xs after_into (failed (Syntax l)) at_into
+    (part_read table_ref merge_after_target behind_table behind_statement after_into after_target target
+    (failed (Syntax l)) reads_target (λ target. starts_merge_after_target target)
+    (word_missed (t.Keyword k.Using) (merge_after_using target) behind_statement after_target l miss q
+    (spelled_merge_after_using target)))
 
-pub merge_at_3 : (xs y1 y2 y3 : List Token) (v2 : TableRef) (f : Fault) → xs ≡ (t.Keyword k.Into) ∷ y1 →
-    Reads table_ref behind_table y1 (read v2 y2) →
-    y2 ≡ (t.Keyword k.Using) ∷ y3 →
-    Reads (source 0) behind_table y3 (failed f) →
-    Reads (merge) behind_statement xs (failed f)
-unfolding merge merge_1 merge_2 merge_3 merge_4 merge_5 merge_6 merge_7 merge_8 merge_made
-merge_at_3 xs y1 y2 y3 v2 f e1 e2 e3 e4 = word_read (t.Keyword k.Into) (merge_1) behind_statement xs y1 (failed f) e1
-    (part_read table_ref (merge_2) behind_table behind_statement y1 y2 v2 (failed f) e2 (λ v2. starts_merge_2 v2)
-    (word_read (t.Keyword k.Using) (merge_3 v2) behind_statement y2 y3 (failed f) e3
-    (reads_bind_failed (source 0) (merge_4 v2) behind_table behind_statement y3 f e4 (λ v4. starts_merge_4 v2 v4)
-    (λ v4. spelled_merge_4 v2 v4))))
+pub merge_source_failed : (xs after_into after_target after_using : List Token) (target : TableRef) (f : Fault) →
+    xs ≡ (t.Keyword k.Into) ∷ after_into →
+    Reads table_ref behind_table after_into (read target after_target) →
+    after_target ≡ (t.Keyword k.Using) ∷ after_using →
+    Reads (source 0) behind_table after_using (failed f) →
+    Reads merge behind_statement xs (failed f)
+unfolding merge merge_after_into merge_after_target merge_after_using merge_after_source merge_after_on
+    merge_after_condition merge_after_whens merge_after_returning merge_made
+merge_source_failed xs after_into after_target after_using target f at_into reads_target at_using fails =
+    word_read (t.Keyword k.Into) merge_after_into behind_statement xs after_into (failed f) at_into
+    (part_read table_ref merge_after_target behind_table behind_statement after_into after_target target (failed f)
+    reads_target (λ target. starts_merge_after_target target)
+    (word_read (t.Keyword k.Using) (merge_after_using target) behind_statement after_target after_using (failed f)
+    at_using
+    (reads_bind_failed (source 0) (merge_after_source target) behind_table behind_statement after_using f fails
+    (λ origin. starts_merge_after_source target origin) (λ origin. spelled_merge_after_source target origin))))
 
-pub merge_at_4 : (xs y1 y2 y3 y4 : List Token) (v2 : TableRef) (v4 : Source) (l : ℕ) → xs ≡ (t.Keyword k.Into) ∷ y1 →
-    Reads table_ref behind_table y1 (read v2 y2) →
-    y2 ≡ (t.Keyword k.Using) ∷ y3 →
-    Reads (source 0) behind_table y3 (read v4 y4) →
-    Misses (t.Keyword k.On) y4 →
-    l ≡ length y4 →
-    Reads (merge) behind_statement xs (failed (Syntax l))
-unfolding merge merge_1 merge_2 merge_3 merge_4 merge_5 merge_6 merge_7 merge_8 merge_made
-merge_at_4 xs y1 y2 y3 y4 v2 v4 l e1 e2 e3 e4 e5 q =
-    word_read (t.Keyword k.Into) (merge_1) behind_statement xs y1 (failed (Syntax l)) e1
-    (part_read table_ref (merge_2) behind_table behind_statement y1 y2 v2 (failed (Syntax l)) e2
-    (λ v2. starts_merge_2 v2)
-    (word_read (t.Keyword k.Using) (merge_3 v2) behind_statement y2 y3 (failed (Syntax l)) e3
-    (part_read (source 0) (merge_4 v2) behind_table behind_statement y3 y4 v4 (failed (Syntax l)) e4
-    (λ v4. starts_merge_4 v2 v4)
-    (word_missed (t.Keyword k.On) (merge_5 v2 v4) behind_statement y4 l e5 q (spelled_merge_5 v2 v4)))))
+pub merge_no_on : (xs after_into after_target after_using after_source : List Token) (target : TableRef)
+    (origin : Source) (l : ℕ) →
+    xs ≡ (t.Keyword k.Into) ∷ after_into →
+    Reads table_ref behind_table after_into (read target after_target) →
+    after_target ≡ (t.Keyword k.Using) ∷ after_using →
+    Reads (source 0) behind_table after_using (read origin after_source) →
+    Misses (t.Keyword k.On) after_source →
+    l ≡ length after_source →
+    Reads merge behind_statement xs (failed (Syntax l))
+unfolding merge merge_after_into merge_after_target merge_after_using merge_after_source merge_after_on
+    merge_after_condition merge_after_whens merge_after_returning merge_made
+merge_no_on xs after_into after_target after_using after_source target origin l at_into reads_target at_using
+    reads_source miss q =
+    word_read (t.Keyword k.Into) merge_after_into behind_statement xs after_into (failed (Syntax l)) at_into
+    (part_read table_ref merge_after_target behind_table behind_statement after_into after_target target
+    (failed (Syntax l)) reads_target (λ target. starts_merge_after_target target)
+    (word_read (t.Keyword k.Using) (merge_after_using target) behind_statement after_target after_using
+    (failed (Syntax l)) at_using
+    (part_read (source 0) (merge_after_source target) behind_table behind_statement after_using after_source origin
+    (failed (Syntax l)) reads_source (λ origin. starts_merge_after_source target origin)
+    (word_missed (t.Keyword k.On) (merge_after_on target origin) behind_statement after_source l miss q
+    (spelled_merge_after_on target origin)))))
 
-pub merge_at_5 : (xs y1 y2 y3 y4 y5 : List Token) (v2 : TableRef) (v4 : Source) (f : Fault) →
-    xs ≡ (t.Keyword k.Into) ∷ y1 →
-    Reads table_ref behind_table y1 (read v2 y2) →
-    y2 ≡ (t.Keyword k.Using) ∷ y3 →
-    Reads (source 0) behind_table y3 (read v4 y4) →
-    y4 ≡ (t.Keyword k.On) ∷ y5 →
-    Reads expr behind_expr y5 (failed f) →
-    Reads (merge) behind_statement xs (failed f)
-unfolding merge merge_1 merge_2 merge_3 merge_4 merge_5 merge_6 merge_7 merge_8 merge_made
-merge_at_5 xs y1 y2 y3 y4 y5 v2 v4 f e1 e2 e3 e4 e5 e6 =
-    word_read (t.Keyword k.Into) (merge_1) behind_statement xs y1 (failed f) e1
-    (part_read table_ref (merge_2) behind_table behind_statement y1 y2 v2 (failed f) e2 (λ v2. starts_merge_2 v2)
-    (word_read (t.Keyword k.Using) (merge_3 v2) behind_statement y2 y3 (failed f) e3
-    (part_read (source 0) (merge_4 v2) behind_table behind_statement y3 y4 v4 (failed f) e4 (λ v4. starts_merge_4 v2 v4)
-    (word_read (t.Keyword k.On) (merge_5 v2 v4) behind_statement y4 y5 (failed f) e5
-    (reads_bind_failed expr (merge_6 v2 v4) behind_expr behind_statement y5 f e6 (λ v6. starts_merge_6 v2 v4 v6)
-    (λ v6. spelled_merge_6 v2 v4 v6))))))
+pub merge_condition_failed : (xs after_into after_target after_using after_source after_on : List Token)
+    (target : TableRef) (origin : Source) (f : Fault) →
+    xs ≡ (t.Keyword k.Into) ∷ after_into →
+    Reads table_ref behind_table after_into (read target after_target) →
+    after_target ≡ (t.Keyword k.Using) ∷ after_using →
+    Reads (source 0) behind_table after_using (read origin after_source) →
+    after_source ≡ (t.Keyword k.On) ∷ after_on →
+    Reads expr behind_expr after_on (failed f) →
+    Reads merge behind_statement xs (failed f)
+unfolding merge merge_after_into merge_after_target merge_after_using merge_after_source merge_after_on
+    merge_after_condition merge_after_whens merge_after_returning merge_made
+merge_condition_failed xs after_into after_target after_using after_source after_on target origin f at_into reads_target
+    at_using reads_source at_on fails =
+    word_read (t.Keyword k.Into) merge_after_into behind_statement xs after_into (failed f) at_into
+    (part_read table_ref merge_after_target behind_table behind_statement after_into after_target target (failed f)
+    reads_target (λ target. starts_merge_after_target target)
+    (word_read (t.Keyword k.Using) (merge_after_using target) behind_statement after_target after_using (failed f)
+    at_using
+    (part_read (source 0) (merge_after_source target) behind_table behind_statement after_using after_source origin
+    (failed f) reads_source (λ origin. starts_merge_after_source target origin)
+    (word_read (t.Keyword k.On) (merge_after_on target origin) behind_statement after_source after_on (failed f) at_on
+    (reads_bind_failed expr (merge_after_condition target origin) behind_expr behind_statement after_on f fails
+    (λ matching. starts_merge_after_condition target origin matching)
+    (λ matching. spelled_merge_after_condition target origin matching))))))
 
-pub merge_at_6 : (xs y1 y2 y3 y4 y5 y6 : List Token) (v2 : TableRef) (v4 : Source) (v6 : Tree) (f : Fault) →
-    xs ≡ (t.Keyword k.Into) ∷ y1 →
-    Reads table_ref behind_table y1 (read v2 y2) →
-    y2 ≡ (t.Keyword k.Using) ∷ y3 →
-    Reads (source 0) behind_table y3 (read v4 y4) →
-    y4 ≡ (t.Keyword k.On) ∷ y5 →
-    Reads expr behind_expr y5 (read v6 y6) →
-    Reads whens behind_whens y6 (failed f) →
-    Reads (merge) behind_statement xs (failed f)
-unfolding merge merge_1 merge_2 merge_3 merge_4 merge_5 merge_6 merge_7 merge_8 merge_made
-merge_at_6 xs y1 y2 y3 y4 y5 y6 v2 v4 v6 f e1 e2 e3 e4 e5 e6 e7 =
-    word_read (t.Keyword k.Into) (merge_1) behind_statement xs y1 (failed f) e1
-    (part_read table_ref (merge_2) behind_table behind_statement y1 y2 v2 (failed f) e2 (λ v2. starts_merge_2 v2)
-    (word_read (t.Keyword k.Using) (merge_3 v2) behind_statement y2 y3 (failed f) e3
-    (part_read (source 0) (merge_4 v2) behind_table behind_statement y3 y4 v4 (failed f) e4 (λ v4. starts_merge_4 v2 v4)
-    (word_read (t.Keyword k.On) (merge_5 v2 v4) behind_statement y4 y5 (failed f) e5
-    (part_read expr (merge_6 v2 v4) behind_expr behind_statement y5 y6 v6 (failed f) e6 (λ v6. starts_merge_6 v2 v4 v6)
-    (reads_bind_failed whens (merge_7 v2 v4 v6) behind_whens behind_statement y6 f e7 (λ v7. starts_merge_7 v2 v4 v6 v7)
-    (λ v7. spelled_merge_7 v2 v4 v6 v7)))))))
+pub merge_whens_failed : (xs after_into after_target after_using after_source after_on after_condition : List Token)
+    (target : TableRef) (origin : Source) (matching : Tree) (f : Fault) →
+    xs ≡ (t.Keyword k.Into) ∷ after_into →
+    Reads table_ref behind_table after_into (read target after_target) →
+    after_target ≡ (t.Keyword k.Using) ∷ after_using →
+    Reads (source 0) behind_table after_using (read origin after_source) →
+    after_source ≡ (t.Keyword k.On) ∷ after_on →
+    Reads expr behind_expr after_on (read matching after_condition) →
+    Reads whens behind_whens after_condition (failed f) →
+    Reads merge behind_statement xs (failed f)
+unfolding merge merge_after_into merge_after_target merge_after_using merge_after_source merge_after_on
+    merge_after_condition merge_after_whens merge_after_returning merge_made
+merge_whens_failed xs after_into after_target after_using after_source after_on after_condition target origin matching f
+    at_into reads_target at_using reads_source at_on reads_condition fails =
+    word_read (t.Keyword k.Into) merge_after_into behind_statement xs after_into (failed f) at_into
+    (part_read table_ref merge_after_target behind_table behind_statement after_into after_target target (failed f)
+    reads_target (λ target. starts_merge_after_target target)
+    (word_read (t.Keyword k.Using) (merge_after_using target) behind_statement after_target after_using (failed f)
+    at_using
+    (part_read (source 0) (merge_after_source target) behind_table behind_statement after_using after_source origin
+    (failed f) reads_source (λ origin. starts_merge_after_source target origin)
+    (word_read (t.Keyword k.On) (merge_after_on target origin) behind_statement after_source after_on (failed f) at_on
+    (part_read expr (merge_after_condition target origin) behind_expr behind_statement after_on after_condition matching
+    (failed f) reads_condition (λ matching. starts_merge_after_condition target origin matching)
+    (reads_bind_failed whens (merge_after_whens target origin matching) behind_whens behind_statement after_condition f
+    fails (λ clauses. starts_merge_after_whens target origin matching clauses)
+    (λ clauses. spelled_merge_after_whens target origin matching clauses)))))))
 
-pub merge_at_7 : (xs y1 y2 y3 y4 y5 y6 y7 : List Token) (v2 : TableRef) (v4 : Source) (v6 : Tree) (v7 : List When)
-    (f : Fault) → xs ≡ (t.Keyword k.Into) ∷ y1 →
-    Reads table_ref behind_table y1 (read v2 y2) →
-    y2 ≡ (t.Keyword k.Using) ∷ y3 →
-    Reads (source 0) behind_table y3 (read v4 y4) →
-    y4 ≡ (t.Keyword k.On) ∷ y5 →
-    Reads expr behind_expr y5 (read v6 y6) →
-    Reads whens behind_whens y6 (read v7 y7) →
-    Reads returning behind_returning y7 (failed f) →
-    Reads (merge) behind_statement xs (failed f)
-unfolding merge merge_1 merge_2 merge_3 merge_4 merge_5 merge_6 merge_7 merge_8 merge_made
-merge_at_7 xs y1 y2 y3 y4 y5 y6 y7 v2 v4 v6 v7 f e1 e2 e3 e4 e5 e6 e7 e8 =
-    word_read (t.Keyword k.Into) (merge_1) behind_statement xs y1 (failed f) e1
-    (part_read table_ref (merge_2) behind_table behind_statement y1 y2 v2 (failed f) e2 (λ v2. starts_merge_2 v2)
-    (word_read (t.Keyword k.Using) (merge_3 v2) behind_statement y2 y3 (failed f) e3
-    (part_read (source 0) (merge_4 v2) behind_table behind_statement y3 y4 v4 (failed f) e4 (λ v4. starts_merge_4 v2 v4)
-    (word_read (t.Keyword k.On) (merge_5 v2 v4) behind_statement y4 y5 (failed f) e5
-    (part_read expr (merge_6 v2 v4) behind_expr behind_statement y5 y6 v6 (failed f) e6 (λ v6. starts_merge_6 v2 v4 v6)
-    (part_read whens (merge_7 v2 v4 v6) behind_whens behind_statement y6 y7 v7 (failed f) e7
-    (λ v7. starts_merge_7 v2 v4 v6 v7)
-    (reads_bind_failed returning (merge_8 v2 v4 v6 v7) behind_returning behind_statement y7 f e8
-    (λ v8. starts_merge_8 v2 v4 v6 v7 v8) (λ v8. spelled_merge_8 v2 v4 v6 v7 v8))))))))
+pub merge_returning_failed :
+    (xs after_into after_target after_using after_source after_on after_condition after_whens : List Token)
+    (target : TableRef) (origin : Source) (matching : Tree) (clauses : List When) (f : Fault) →
+    xs ≡ (t.Keyword k.Into) ∷ after_into →
+    Reads table_ref behind_table after_into (read target after_target) →
+    after_target ≡ (t.Keyword k.Using) ∷ after_using →
+    Reads (source 0) behind_table after_using (read origin after_source) →
+    after_source ≡ (t.Keyword k.On) ∷ after_on →
+    Reads expr behind_expr after_on (read matching after_condition) →
+    Reads whens behind_whens after_condition (read clauses after_whens) →
+    Reads returning behind_returning after_whens (failed f) →
+    Reads merge behind_statement xs (failed f)
+unfolding merge merge_after_into merge_after_target merge_after_using merge_after_source merge_after_on
+    merge_after_condition merge_after_whens merge_after_returning merge_made
+merge_returning_failed xs after_into after_target after_using after_source after_on after_condition after_whens target
+    origin matching clauses f at_into reads_target at_using reads_source at_on reads_condition reads_whens fails =
+    word_read (t.Keyword k.Into) merge_after_into behind_statement xs after_into (failed f) at_into
+    (part_read table_ref merge_after_target behind_table behind_statement after_into after_target target (failed f)
+    reads_target (λ target. starts_merge_after_target target)
+    (word_read (t.Keyword k.Using) (merge_after_using target) behind_statement after_target after_using (failed f)
+    at_using
+    (part_read (source 0) (merge_after_source target) behind_table behind_statement after_using after_source origin
+    (failed f) reads_source (λ origin. starts_merge_after_source target origin)
+    (word_read (t.Keyword k.On) (merge_after_on target origin) behind_statement after_source after_on (failed f) at_on
+    (part_read expr (merge_after_condition target origin) behind_expr behind_statement after_on after_condition matching
+    (failed f) reads_condition (λ matching. starts_merge_after_condition target origin matching)
+    (part_read whens (merge_after_whens target origin matching) behind_whens behind_statement after_condition
+    after_whens clauses (failed f) reads_whens (λ clauses. starts_merge_after_whens target origin matching clauses)
+    (reads_bind_failed returning (merge_after_returning target origin matching clauses) behind_returning
+    behind_statement after_whens f fails
+    (λ returned. starts_merge_after_returning target origin matching clauses returned)
+    (λ returned. spelled_merge_after_returning target origin matching clauses returned))))))))
 
-pub merge_at_8 : (xs y1 y2 y3 y4 y5 y6 y7 y8 : List Token) (v2 : TableRef) (v4 : Source) (v6 : Tree) (v7 : List When)
-    (v8 : List Item) → xs ≡ (t.Keyword k.Into) ∷ y1 →
-    Reads table_ref behind_table y1 (read v2 y2) →
-    y2 ≡ (t.Keyword k.Using) ∷ y3 →
-    Reads (source 0) behind_table y3 (read v4 y4) →
-    y4 ≡ (t.Keyword k.On) ∷ y5 →
-    Reads expr behind_expr y5 (read v6 y6) →
-    Reads whens behind_whens y6 (read v7 y7) →
-    Reads returning behind_returning y7 (read v8 y8) →
-    Reads (merge) behind_statement xs (read (record {
+pub merge_whole :
+    (xs after_into after_target after_using after_source after_on after_condition after_whens rest : List Token)
+    (target : TableRef) (origin : Source) (matching : Tree) (clauses : List When) (returned : List Item) →
+    xs ≡ (t.Keyword k.Into) ∷ after_into →
+    Reads table_ref behind_table after_into (read target after_target) →
+    after_target ≡ (t.Keyword k.Using) ∷ after_using →
+    Reads (source 0) behind_table after_using (read origin after_source) →
+    after_source ≡ (t.Keyword k.On) ∷ after_on →
+    Reads expr behind_expr after_on (read matching after_condition) →
+    Reads whens behind_whens after_condition (read clauses after_whens) →
+    Reads returning behind_returning after_whens (read returned rest) →
+    Reads merge behind_statement xs (read (record {
       target =
-          v2;
-      source = v4;
-      on = v6;
-      clauses = v7;
-      returning = v8;
-    }) y8)
-unfolding merge merge_1 merge_2 merge_3 merge_4 merge_5 merge_6 merge_7 merge_8 merge_made
-merge_at_8 xs y1 y2 y3 y4 y5 y6 y7 y8 v2 v4 v6 v7 v8 e1 e2 e3 e4 e5 e6 e7 e8 =
-    word_read (t.Keyword k.Into) (merge_1) behind_statement xs y1
-    (read (record { target = v2; source = v4; on = v6; clauses = v7; returning = v8 }) y8) e1
-    (part_read table_ref (merge_2) behind_table behind_statement y1 y2 v2
-    (read (record { target = v2; source = v4; on = v6; clauses = v7; returning = v8 }) y8) e2 (λ v2. starts_merge_2 v2)
-    (word_read (t.Keyword k.Using) (merge_3 v2) behind_statement y2 y3
-    (read (record { target = v2; source = v4; on = v6; clauses = v7; returning = v8 }) y8) e3
-    (part_read (source 0) (merge_4 v2) behind_table behind_statement y3 y4 v4
-    (read (record { target = v2; source = v4; on = v6; clauses = v7; returning = v8 }) y8) e4
-    (λ v4. starts_merge_4 v2 v4)
-    (word_read (t.Keyword k.On) (merge_5 v2 v4) behind_statement y4 y5
-    (read (record { target = v2; source = v4; on = v6; clauses = v7; returning = v8 }) y8) e5
-    (part_read expr (merge_6 v2 v4) behind_expr behind_statement y5 y6 v6
-    (read (record { target = v2; source = v4; on = v6; clauses = v7; returning = v8 }) y8) e6
-    (λ v6. starts_merge_6 v2 v4 v6)
-    (part_read whens (merge_7 v2 v4 v6) behind_whens behind_statement y6 y7 v7
-    (read (record { target = v2; source = v4; on = v6; clauses = v7; returning = v8 }) y8) e7
-    (λ v7. starts_merge_7 v2 v4 v6 v7)
-    (part_read returning (merge_8 v2 v4 v6 v7) behind_returning behind_statement y7 y8 v8
-    (read (record { target = v2; source = v4; on = v6; clauses = v7; returning = v8 }) y8) e8
-    (λ v8. starts_merge_8 v2 v4 v6 v7 v8)
-    (reads_gives (merge_made v2 v4 v6 v7 v8) (merge_made v2 v4 v6 v7 v8) behind_statement y8 refl))))))))
+          target;
+      source = origin;
+      on = matching;
+      clauses = clauses;
+      returning = returned;
+    }) rest)
+unfolding merge merge_after_into merge_after_target merge_after_using merge_after_source merge_after_on
+    merge_after_condition merge_after_whens merge_after_returning merge_made
+merge_whole xs after_into after_target after_using after_source after_on after_condition after_whens rest target origin
+    matching clauses returned at_into reads_target at_using reads_source at_on reads_condition reads_whens
+    reads_returning =
+    word_read (t.Keyword k.Into) merge_after_into behind_statement xs after_into
+    (read (merge_made target origin matching clauses returned) rest) at_into
+    (part_read table_ref merge_after_target behind_table behind_statement after_into after_target target
+    (read (merge_made target origin matching clauses returned) rest) reads_target
+    (λ target. starts_merge_after_target target)
+    (word_read (t.Keyword k.Using) (merge_after_using target) behind_statement after_target after_using
+    (read (merge_made target origin matching clauses returned) rest) at_using
+    (part_read (source 0) (merge_after_source target) behind_table behind_statement after_using after_source origin
+    (read (merge_made target origin matching clauses returned) rest) reads_source
+    (λ origin. starts_merge_after_source target origin)
+    (word_read (t.Keyword k.On) (merge_after_on target origin) behind_statement after_source after_on
+    (read (merge_made target origin matching clauses returned) rest) at_on
+    (part_read expr (merge_after_condition target origin) behind_expr behind_statement after_on after_condition matching
+    (read (merge_made target origin matching clauses returned) rest) reads_condition
+    (λ matching. starts_merge_after_condition target origin matching)
+    (part_read whens (merge_after_whens target origin matching) behind_whens behind_statement after_condition
+    after_whens clauses (read (merge_made target origin matching clauses returned) rest) reads_whens
+    (λ clauses. starts_merge_after_whens target origin matching clauses)
+    (part_read returning (merge_after_returning target origin matching clauses) behind_returning behind_statement
+    after_whens rest returned (read (merge_made target origin matching clauses returned) rest) reads_returning
+    (λ returned. starts_merge_after_returning target origin matching clauses returned)
+    (reads_gives (merge_made target origin matching clauses returned)
+    (merge_made target origin matching clauses returned) behind_statement rest refl))))))))

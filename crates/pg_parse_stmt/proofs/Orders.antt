@@ -123,96 +123,110 @@ key_nulls : (o : Option Token) → behind_order_key o ≡ true → behind_nulls 
 unfolding behind_order_key
 key_nulls o e = and_right (behind_expr o && behind_direction o) (behind_nulls o) e
 
-order_key_made : (v1 : Tree) → (v2 : Direction) → (v3 : NullsPlace) → OrderKey
-order_key_made v1 v2 v3 = record { expr = v1; direction = v2; nulls = v3 }
+-- expr [ASC | DESC] [NULLS (FIRST | LAST)]
+order_key_made : (key : Tree) → (way : Direction) → (place : NullsPlace) → OrderKey
+order_key_made key way place = record { expr = key; direction = way; nulls = place }
 
-order_key_3 : (v1 : Tree) → (v2 : Direction) → (v3 : NullsPlace) → Lang Token OrderKey
-order_key_3 v1 v2 v3 = gives (order_key_made v1 v2 v3)
+order_key_after_nulls : (key : Tree) → (way : Direction) → (place : NullsPlace) → Lang Token OrderKey
+order_key_after_nulls key way place = gives (order_key_made key way place)
 
-spelled_order_key_3 : (v1 : Tree) → (v2 : Direction) → (v3 : NullsPlace) → Spelled (order_key_3 v1 v2 v3)
-unfolding order_key_3
-spelled_order_key_3 v1 v2 v3 = spelled_gives (order_key_made v1 v2 v3)
+spelled_order_key_after_nulls : (key : Tree) → (way : Direction) → (place : NullsPlace) →
+    Spelled (order_key_after_nulls key way place)
+unfolding order_key_after_nulls
+spelled_order_key_after_nulls key way place = spelled_gives (order_key_made key way place)
 
-order_key_2 : (v1 : Tree) → (v2 : Direction) → Lang Token OrderKey
-order_key_2 v1 v2 = bind (nulls v2) (order_key_3 v1 v2)
+order_key_after_direction : (key : Tree) → (way : Direction) → Lang Token OrderKey
+order_key_after_direction key way = bind (nulls way) (order_key_after_nulls key way)
 
-spelled_order_key_2 : (v1 : Tree) → (v2 : Direction) → Spelled (order_key_2 v1 v2)
-unfolding order_key_2
-spelled_order_key_2 v1 v2 =
-    spelled_bind (nulls v2) (order_key_3 v1 v2) (spelled_nulls v2) (λ u. spelled_order_key_3 v1 v2 u)
+spelled_order_key_after_direction : (key : Tree) → (way : Direction) → Spelled (order_key_after_direction key way)
+unfolding order_key_after_direction
+spelled_order_key_after_direction key way =
+    spelled_bind (nulls way) (order_key_after_nulls key way) (spelled_nulls way)
+    (λ place. spelled_order_key_after_nulls key way place)
 
-order_key_1 : (v1 : Tree) → Lang Token OrderKey
-order_key_1 v1 = bind direction (order_key_2 v1)
+order_key_after_expr : (key : Tree) → Lang Token OrderKey
+order_key_after_expr key = bind direction (order_key_after_direction key)
 
-spelled_order_key_1 : (v1 : Tree) → Spelled (order_key_1 v1)
-unfolding order_key_1
-spelled_order_key_1 v1 = spelled_bind direction (order_key_2 v1) spelled_direction (λ u. spelled_order_key_2 v1 u)
+spelled_order_key_after_expr : (key : Tree) → Spelled (order_key_after_expr key)
+unfolding order_key_after_expr
+spelled_order_key_after_expr key =
+    spelled_bind direction (order_key_after_direction key) spelled_direction
+    (λ way. spelled_order_key_after_direction key way)
 
-pub spelled_order_key : Spelled (order_key)
-unfolding order_key order_key_1 order_key_2 order_key_3 order_key_made
-spelled_order_key = spelled_bind expr (order_key_1) spelled_expr (λ u. spelled_order_key_1 u)
+pub spelled_order_key : Spelled order_key
+unfolding order_key order_key_after_expr order_key_after_direction order_key_after_nulls order_key_made
+spelled_order_key = spelled_bind expr order_key_after_expr spelled_expr (λ key. spelled_order_key_after_expr key)
 
-starts_order_key_1 : (v1 : Tree) → Starts behind_expr (order_key_1 v1) behind_order_key
-unfolding order_key_1 order_key_2 order_key_3 order_key_made
-starts_order_key_1 v1 =
-    starts_bind behind_expr behind_expr behind_order_key direction (order_key_2 v1)
-    (starts_direction behind_expr expr_direction) (λ v2. starts_bind behind_expr behind_expr behind_order_key (nulls v2)
-    (order_key_3 v1 v2) (starts_nulls v2 behind_expr nulls_behind_expr)
-    (λ v3. starts_gives behind_expr behind_order_key (order_key_made v1 v2 v3) (key_expr)))
+starts_order_key_after_expr : (key : Tree) → Starts behind_expr (order_key_after_expr key) behind_order_key
+unfolding order_key_after_expr order_key_after_direction order_key_after_nulls order_key_made
+starts_order_key_after_expr key =
+    starts_bind behind_expr behind_expr behind_order_key direction (order_key_after_direction key)
+    (starts_direction behind_expr expr_direction)
+    (λ way. starts_bind behind_expr behind_expr behind_order_key (nulls way) (order_key_after_nulls key way)
+    (starts_nulls way behind_expr nulls_behind_expr)
+    (λ place. starts_gives behind_expr behind_order_key (order_key_made key way place) key_expr))
 
-starts_order_key_2 : (v1 : Tree) → (v2 : Direction) → Starts behind_direction (order_key_2 v1 v2) behind_order_key
-unfolding order_key_1 order_key_2 order_key_3 order_key_made
-starts_order_key_2 v1 v2 =
-    starts_bind behind_direction behind_direction behind_order_key (nulls v2) (order_key_3 v1 v2)
-    (starts_nulls v2 behind_direction nulls_behind_direction)
-    (λ v3. starts_gives behind_direction behind_order_key (order_key_made v1 v2 v3) (key_direction))
+starts_order_key_after_direction : (key : Tree) → (way : Direction) →
+    Starts behind_direction (order_key_after_direction key way) behind_order_key
+unfolding order_key_after_expr order_key_after_direction order_key_after_nulls order_key_made
+starts_order_key_after_direction key way =
+    starts_bind behind_direction behind_direction behind_order_key (nulls way) (order_key_after_nulls key way)
+    (starts_nulls way behind_direction nulls_behind_direction)
+    (λ place. starts_gives behind_direction behind_order_key (order_key_made key way place) key_direction)
 
-starts_order_key_3 : (v1 : Tree) → (v2 : Direction) → (v3 : NullsPlace) →
-    Starts behind_nulls (order_key_3 v1 v2 v3) behind_order_key
-unfolding order_key_1 order_key_2 order_key_3 order_key_made
-starts_order_key_3 v1 v2 v3 = starts_gives behind_nulls behind_order_key (order_key_made v1 v2 v3) (key_nulls)
+starts_order_key_after_nulls : (key : Tree) → (way : Direction) → (place : NullsPlace) →
+    Starts behind_nulls (order_key_after_nulls key way place) behind_order_key
+unfolding order_key_after_expr order_key_after_direction order_key_after_nulls order_key_made
+starts_order_key_after_nulls key way place =
+    starts_gives behind_nulls behind_order_key (order_key_made key way place) key_nulls
 
-pub order_key_at_0 : (xs : List Token) (f : Fault) → Reads expr behind_expr xs (failed f) →
-    Reads (order_key) behind_order_key xs (failed f)
-unfolding order_key order_key_1 order_key_2 order_key_3 order_key_made
-order_key_at_0 xs f e1 =
-    reads_bind_failed expr (order_key_1) behind_expr behind_order_key xs f e1 (λ v1. starts_order_key_1 v1)
-    (λ v1. spelled_order_key_1 v1)
+pub order_key_expr_failed : (xs : List Token) (f : Fault) → Reads expr behind_expr xs (failed f) →
+    Reads order_key behind_order_key xs (failed f)
+unfolding order_key order_key_after_expr order_key_after_direction order_key_after_nulls order_key_made
+order_key_expr_failed xs f fails =
+    reads_bind_failed expr order_key_after_expr behind_expr behind_order_key xs f fails
+    (λ key. starts_order_key_after_expr key) (λ key. spelled_order_key_after_expr key)
 
-pub order_key_at_1 : (xs y1 : List Token) (v1 : Tree) (f : Fault) → Reads expr behind_expr xs (read v1 y1) →
-    Reads direction behind_direction y1 (failed f) →
-    Reads (order_key) behind_order_key xs (failed f)
-unfolding order_key order_key_1 order_key_2 order_key_3 order_key_made
-order_key_at_1 xs y1 v1 f e1 e2 =
-    part_read expr (order_key_1) behind_expr behind_order_key xs y1 v1 (failed f) e1 (λ v1. starts_order_key_1 v1)
-    (reads_bind_failed direction (order_key_2 v1) behind_direction behind_order_key y1 f e2
-    (λ v2. starts_order_key_2 v1 v2) (λ v2. spelled_order_key_2 v1 v2))
+pub order_key_direction_failed : (xs after_expr : List Token) (key : Tree) (f : Fault) →
+    Reads expr behind_expr xs (read key after_expr) →
+    Reads direction behind_direction after_expr (failed f) →
+    Reads order_key behind_order_key xs (failed f)
+unfolding order_key order_key_after_expr order_key_after_direction order_key_after_nulls order_key_made
+order_key_direction_failed xs after_expr key f reads_expr fails =
+    part_read expr order_key_after_expr behind_expr behind_order_key xs after_expr key (failed f) reads_expr
+    (λ key. starts_order_key_after_expr key)
+    (reads_bind_failed direction (order_key_after_direction key) behind_direction behind_order_key after_expr f fails
+    (λ way. starts_order_key_after_direction key way) (λ way. spelled_order_key_after_direction key way))
 
-pub order_key_at_2 : (xs y1 y2 : List Token) (v1 : Tree) (v2 : Direction) (f : Fault) →
-    Reads expr behind_expr xs (read v1 y1) → Reads direction behind_direction y1 (read v2 y2) →
-    Reads (nulls v2) behind_nulls y2 (failed f) →
-    Reads (order_key) behind_order_key xs (failed f)
-unfolding order_key order_key_1 order_key_2 order_key_3 order_key_made
-order_key_at_2 xs y1 y2 v1 v2 f e1 e2 e3 =
-    part_read expr (order_key_1) behind_expr behind_order_key xs y1 v1 (failed f) e1 (λ v1. starts_order_key_1 v1)
-    (part_read direction (order_key_2 v1) behind_direction behind_order_key y1 y2 v2 (failed f) e2
-    (λ v2. starts_order_key_2 v1 v2)
-    (reads_bind_failed (nulls v2) (order_key_3 v1 v2) behind_nulls behind_order_key y2 f e3
-    (λ v3. starts_order_key_3 v1 v2 v3) (λ v3. spelled_order_key_3 v1 v2 v3)))
+pub order_key_nulls_failed : (xs after_expr after_direction : List Token) (key : Tree) (way : Direction) (f : Fault) →
+    Reads expr behind_expr xs (read key after_expr) →
+    Reads direction behind_direction after_expr (read way after_direction) →
+    Reads (nulls way) behind_nulls after_direction (failed f) →
+    Reads order_key behind_order_key xs (failed f)
+unfolding order_key order_key_after_expr order_key_after_direction order_key_after_nulls order_key_made
+order_key_nulls_failed xs after_expr after_direction key way f reads_expr reads_direction fails =
+    part_read expr order_key_after_expr behind_expr behind_order_key xs after_expr key (failed f) reads_expr
+    (λ key. starts_order_key_after_expr key)
+    (part_read direction (order_key_after_direction key) behind_direction behind_order_key after_expr after_direction
+    way (failed f) reads_direction (λ way. starts_order_key_after_direction key way)
+    (reads_bind_failed (nulls way) (order_key_after_nulls key way) behind_nulls behind_order_key after_direction f fails
+    (λ place. starts_order_key_after_nulls key way place) (λ place. spelled_order_key_after_nulls key way place)))
 
-pub order_key_at_3 : (xs y1 y2 y3 : List Token) (v1 : Tree) (v2 : Direction) (v3 : NullsPlace) →
-    Reads expr behind_expr xs (read v1 y1) → Reads direction behind_direction y1 (read v2 y2) →
-    Reads (nulls v2) behind_nulls y2 (read v3 y3) →
-    Reads (order_key) behind_order_key xs (read (record { expr = v1; direction = v2; nulls = v3 }) y3)
-unfolding order_key order_key_1 order_key_2 order_key_3 order_key_made
-order_key_at_3 xs y1 y2 y3 v1 v2 v3 e1 e2 e3 =
-    part_read expr (order_key_1) behind_expr behind_order_key xs y1 v1
-    (read (record { expr = v1; direction = v2; nulls = v3 }) y3) e1 (λ v1. starts_order_key_1 v1)
-    (part_read direction (order_key_2 v1) behind_direction behind_order_key y1 y2 v2
-    (read (record { expr = v1; direction = v2; nulls = v3 }) y3) e2 (λ v2. starts_order_key_2 v1 v2)
-    (part_read (nulls v2) (order_key_3 v1 v2) behind_nulls behind_order_key y2 y3 v3
-    (read (record { expr = v1; direction = v2; nulls = v3 }) y3) e3 (λ v3. starts_order_key_3 v1 v2 v3)
-    (reads_gives (order_key_made v1 v2 v3) (order_key_made v1 v2 v3) behind_order_key y3 refl)))
+pub order_key_whole : (xs after_expr after_direction rest : List Token) (key : Tree) (way : Direction)
+    (place : NullsPlace) →
+    Reads expr behind_expr xs (read key after_expr) →
+    Reads direction behind_direction after_expr (read way after_direction) →
+    Reads (nulls way) behind_nulls after_direction (read place rest) →
+    Reads order_key behind_order_key xs (read (record { expr = key; direction = way; nulls = place }) rest)
+unfolding order_key order_key_after_expr order_key_after_direction order_key_after_nulls order_key_made
+order_key_whole xs after_expr after_direction rest key way place reads_expr reads_direction reads_nulls =
+    part_read expr order_key_after_expr behind_expr behind_order_key xs after_expr key
+    (read (order_key_made key way place) rest) reads_expr (λ key. starts_order_key_after_expr key)
+    (part_read direction (order_key_after_direction key) behind_direction behind_order_key after_expr after_direction
+    way (read (order_key_made key way place) rest) reads_direction (λ way. starts_order_key_after_direction key way)
+    (part_read (nulls way) (order_key_after_nulls key way) behind_nulls behind_order_key after_direction rest place
+    (read (order_key_made key way place) rest) reads_nulls (λ place. starts_order_key_after_nulls key way place)
+    (reads_gives (order_key_made key way place) (order_key_made key way place) behind_order_key rest refl)))
 
 order_below : (o : Option Token) → behind_order o ≡ true → behind_list behind_order_key o ≡ true
 unfolding behind_order

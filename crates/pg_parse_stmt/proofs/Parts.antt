@@ -12,13 +12,13 @@ use Rattle.pg_lexer.specs.declared.sign.Sign.TheVariants as s
 use Rattle.pg_lexer.specs.declared.token.Token.{Token}
 use Rattle.pg_lexer.specs.declared.token.Token.TheVariants as t
 use Rattle.pg_parse_expr.specs.Behind.{has}
-use Rattle.pg_parse_expr.specs.Operators.{name_of}
+use Rattle.pg_parse_expr.specs.Operators.{name_of, value_of}
 use Rattle.pg_parse_stmt.specs.Behind.{any, behind_part}
 use Rattle.pg_parse_stmt.specs.Forms.{word, sign, optional}
 use Rattle.pg_parse_stmt.specs.Spellings.{spelled_name, spelled_optional}
 use Rattle.pg_parse_stmt.specs.Words.{rule_of}
 use Rattle.pg_parse_stmt.proofs.Lists.{starts_any}
-use Rattle.pg_parse_stmt.proofs.Steps.{word_read, part_read, some_read, some_failed, none_read, starts_optional}
+use Rattle.pg_parse_stmt.proofs.Steps.{word_read, part_read, starts_optional}
 use Rattle.std.proofs.lemmas.Bool.{false≢true}
 use Rattle.std.proofs.Common.{subst, inl}
 use Rattle.std.specs.Prelude.{pos, neg_ℤ, is_some}
@@ -29,7 +29,7 @@ use Rattle.pg_lexer.specs.Keywords.{may_be_name}
 use Rattle.pg_parse_stmt.specs.Behind.{behind_constraint_name, begins_constraint}
 use Rattle.pg_parse_stmt.specs.Grammar.{name, default, column_rule_behind, next_rule, column_part, table_constraint_behind, constraint_part, part}
 use Rattle.pg_parse_stmt.specs.Spellings.{spelled_constraint, spelled_kind}
-use Rattle.pg_parse_stmt.specs.Words.{kind_of, constraint_of, value_of, negative_of}
+use Rattle.pg_parse_stmt.specs.Words.{kind_of, constraint_of, negative_of}
 use Rattle.pg_values.specs.declared.value.Value.{Value}
 use Rattle.pg_values.specs.declared.value.Value.TheVariants as value
 use Rattle.pg_values.specs.declared.value.Kind.{Kind}
@@ -41,7 +41,7 @@ use Rattle.pg_parse_stmt.specs.declared.tree.TablePart.{TablePart}
 use Rattle.pg_parse_stmt.specs.declared.tree.TablePart.TheVariants as part_of
 use Rattle.pg_parse_stmt.proofs.Exits.{reads_lacks, lacks_first, lacks_end}
 use Rattle.pg_parse_stmt.proofs.Constraints.{default_is_spelled, spelled_table_constraint}
-use Rattle.pg_parse_stmt.proofs.Following.{check_behind_constraint_name, constraint_goes_on_constraint_name, primary_behind_constraint_name, unique_behind_constraint_name}
+use Rattle.pg_parse_stmt.proofs.Following.{check_behind_constraint_name, primary_behind_constraint_name, unique_behind_constraint_name}
 
 module _ (xs ys : List Token) (u : Token) (v : Value) (l : ℕ) where
   pub negative_read : xs ≡ u ∷ ys → Some v ≡ negative_of u → Reads (one negative_of) any xs (read v ys)
@@ -220,175 +220,175 @@ starts_by_word b g h i j =
     starts_bind b any g (one constraint_of) table_constraint_behind (starts_one b any constraint_of (by_words b h i j))
     (λ w. starts_any (table_constraint_behind w) g)
 
-pub constraint_name_read : (xs ys zs : List Token) (v : List ℕ) → xs ≡ t.Keyword k.Constraint ∷ ys →
-    Reads name any ys (read v zs) →
-    Reads (optional (word k.Constraint name)) behind_constraint_name xs (read (Some v) zs)
-constraint_name_read xs ys zs v e r =
-    some_read (t.Keyword k.Constraint) name any behind_constraint_name
-    (λ o h. refl) xs ys zs v constraint_goes_on_constraint_name e r
+-- name kind, and any number of rules
+column_part_made : (named : List ℕ) → (kind : Kind) → (rules : List ColumnRule) → TablePart
+column_part_made named kind rules = part_of.Column (record { name = named; kind = kind; rules = rules })
 
-pub constraint_name_failed : (xs ys : List Token) (f : Fault) → xs ≡ t.Keyword k.Constraint ∷ ys →
-    Reads name any ys (failed f) →
-    Reads (optional (word k.Constraint name)) behind_constraint_name xs (failed f)
-constraint_name_failed xs ys f e r =
-    some_failed (t.Keyword k.Constraint) name any behind_constraint_name
-    (λ o h. refl) xs ys f constraint_goes_on_constraint_name e r
+column_after_rules : (named : List ℕ) → (kind : Kind) → (rules : List ColumnRule) → Lang Token TablePart
+column_after_rules named kind rules = gives (column_part_made named kind rules)
 
-pub constraint_name_none : (xs : List Token) → Misses (t.Keyword k.Constraint) xs →
-    Reads (optional (word k.Constraint name)) behind_constraint_name xs (read None xs)
-constraint_name_none xs miss = none_read (t.Keyword k.Constraint) name behind_constraint_name xs miss
+spelled_column_after_rules : (named : List ℕ) → (kind : Kind) → (rules : List ColumnRule) →
+    Spelled (column_after_rules named kind rules)
+unfolding column_after_rules
+spelled_column_after_rules named kind rules = spelled_gives (column_part_made named kind rules)
 
-column_part_made : (v1 : List ℕ) → (v2 : Kind) → (v3 : List ColumnRule) → TablePart
-column_part_made v1 v2 v3 = part_of.Column (record { name = v1; kind = v2; rules = v3 })
+column_after_kind : (named : List ℕ) → (kind : Kind) → Lang Token TablePart
+column_after_kind named kind = bind (more next_rule []) (column_after_rules named kind)
 
-column_part_3 : (v1 : List ℕ) → (v2 : Kind) → (v3 : List ColumnRule) → Lang Token TablePart
-column_part_3 v1 v2 v3 = gives (column_part_made v1 v2 v3)
+spelled_column_after_kind : (named : List ℕ) → (kind : Kind) → Spelled (column_after_kind named kind)
+unfolding column_after_kind
+spelled_column_after_kind named kind =
+    spelled_bind (more next_rule []) (column_after_rules named kind) (spelled_more next_rule [])
+    (λ rules. spelled_column_after_rules named kind rules)
 
-spelled_column_part_3 : (v1 : List ℕ) → (v2 : Kind) → (v3 : List ColumnRule) → Spelled (column_part_3 v1 v2 v3)
-unfolding column_part_3
-spelled_column_part_3 v1 v2 v3 = spelled_gives (column_part_made v1 v2 v3)
+column_after_name : (named : List ℕ) → Lang Token TablePart
+column_after_name named = bind (one kind_of) (column_after_kind named)
 
-column_part_2 : (v1 : List ℕ) → (v2 : Kind) → Lang Token TablePart
-column_part_2 v1 v2 = bind (more next_rule []) (column_part_3 v1 v2)
+spelled_column_after_name : (named : List ℕ) → Spelled (column_after_name named)
+unfolding column_after_name
+spelled_column_after_name named =
+    spelled_bind (one kind_of) (column_after_kind named) spelled_kind (λ kind. spelled_column_after_kind named kind)
 
-spelled_column_part_2 : (v1 : List ℕ) → (v2 : Kind) → Spelled (column_part_2 v1 v2)
-unfolding column_part_2
-spelled_column_part_2 v1 v2 =
-    spelled_bind (more next_rule []) (column_part_3 v1 v2) (spelled_more next_rule [])
-    (λ u. spelled_column_part_3 v1 v2 u)
+pub spelled_column_part : Spelled column_part
+unfolding column_part column_after_name column_after_kind column_after_rules column_part_made
+spelled_column_part = spelled_bind name column_after_name spelled_name (λ named. spelled_column_after_name named)
 
-column_part_1 : (v1 : List ℕ) → Lang Token TablePart
-column_part_1 v1 = bind (one kind_of) (column_part_2 v1)
+starts_column_after_name : (named : List ℕ) → Starts any (column_after_name named) behind_part
+unfolding column_after_name column_after_kind column_after_rules column_part_made
+starts_column_after_name named = starts_any (column_after_name named) behind_part
 
-spelled_column_part_1 : (v1 : List ℕ) → Spelled (column_part_1 v1)
-unfolding column_part_1
-spelled_column_part_1 v1 = spelled_bind (one kind_of) (column_part_2 v1) spelled_kind (λ u. spelled_column_part_2 v1 u)
+starts_column_after_kind : (named : List ℕ) → (kind : Kind) → Starts any (column_after_kind named kind) behind_part
+unfolding column_after_name column_after_kind column_after_rules column_part_made
+starts_column_after_kind named kind = starts_any (column_after_kind named kind) behind_part
 
-pub spelled_column_part : Spelled (column_part)
-unfolding column_part column_part_1 column_part_2 column_part_3 column_part_made
-spelled_column_part = spelled_bind name (column_part_1) spelled_name (λ u. spelled_column_part_1 u)
+starts_column_after_rules : (named : List ℕ) → (kind : Kind) → (rules : List ColumnRule) →
+    Starts behind_part (column_after_rules named kind rules) behind_part
+unfolding column_after_name column_after_kind column_after_rules column_part_made
+starts_column_after_rules named kind rules =
+    starts_gives behind_part behind_part (column_part_made named kind rules) (λ o e. e)
 
-starts_column_part_1 : (v1 : List ℕ) → Starts any (column_part_1 v1) behind_part
-unfolding column_part_1 column_part_2 column_part_3 column_part_made
-starts_column_part_1 v1 = starts_any (column_part_1 v1) behind_part
+pub column_part_name_failed : (xs : List Token) (f : Fault) → Reads name any xs (failed f) →
+    Reads column_part behind_part xs (failed f)
+unfolding column_part column_after_name column_after_kind column_after_rules column_part_made
+column_part_name_failed xs f fails =
+    reads_bind_failed name column_after_name any behind_part xs f fails (λ named. starts_column_after_name named)
+    (λ named. spelled_column_after_name named)
 
-starts_column_part_2 : (v1 : List ℕ) → (v2 : Kind) → Starts any (column_part_2 v1 v2) behind_part
-unfolding column_part_1 column_part_2 column_part_3 column_part_made
-starts_column_part_2 v1 v2 = starts_any (column_part_2 v1 v2) behind_part
+pub column_part_kind_failed : (xs after_name : List Token) (named : List ℕ) (f : Fault) →
+    Reads name any xs (read named after_name) →
+    Reads (one kind_of) any after_name (failed f) →
+    Reads column_part behind_part xs (failed f)
+unfolding column_part column_after_name column_after_kind column_after_rules column_part_made
+column_part_kind_failed xs after_name named f reads_name fails =
+    part_read name column_after_name any behind_part xs after_name named (failed f) reads_name
+    (λ named. starts_column_after_name named)
+    (reads_bind_failed (one kind_of) (column_after_kind named) any behind_part after_name f fails
+    (λ kind. starts_column_after_kind named kind) (λ kind. spelled_column_after_kind named kind))
 
-starts_column_part_3 : (v1 : List ℕ) → (v2 : Kind) → (v3 : List ColumnRule) →
-    Starts behind_part (column_part_3 v1 v2 v3) behind_part
-unfolding column_part_1 column_part_2 column_part_3 column_part_made
-starts_column_part_3 v1 v2 v3 = starts_gives behind_part behind_part (column_part_made v1 v2 v3) (λ o e. e)
+pub column_part_rules_failed : (xs after_name after_kind : List Token) (named : List ℕ) (kind : Kind) (f : Fault) →
+    Reads name any xs (read named after_name) →
+    Reads (one kind_of) any after_name (read kind after_kind) →
+    Reads (more next_rule []) behind_part after_kind (failed f) →
+    Reads column_part behind_part xs (failed f)
+unfolding column_part column_after_name column_after_kind column_after_rules column_part_made
+column_part_rules_failed xs after_name after_kind named kind f reads_name reads_kind fails =
+    part_read name column_after_name any behind_part xs after_name named (failed f) reads_name
+    (λ named. starts_column_after_name named)
+    (part_read (one kind_of) (column_after_kind named) any behind_part after_name after_kind kind (failed f) reads_kind
+    (λ kind. starts_column_after_kind named kind)
+    (reads_bind_failed (more next_rule []) (column_after_rules named kind) behind_part behind_part after_kind f fails
+    (λ rules. starts_column_after_rules named kind rules) (λ rules. spelled_column_after_rules named kind rules)))
 
-pub column_part_at_0 : (xs : List Token) (f : Fault) → Reads name any xs (failed f) →
-    Reads (column_part) behind_part xs (failed f)
-unfolding column_part column_part_1 column_part_2 column_part_3 column_part_made
-column_part_at_0 xs f e1 =
-    reads_bind_failed name (column_part_1) any behind_part xs f e1 (λ v1. starts_column_part_1 v1)
-    (λ v1. spelled_column_part_1 v1)
+pub column_part_whole : (xs after_name after_kind rest : List Token) (named : List ℕ) (kind : Kind)
+    (rules : List ColumnRule) →
+    Reads name any xs (read named after_name) →
+    Reads (one kind_of) any after_name (read kind after_kind) →
+    Reads (more next_rule []) behind_part after_kind (read rules rest) →
+    Reads column_part behind_part xs (read (part_of.Column (record { name = named; kind = kind; rules = rules })) rest)
+unfolding column_part column_after_name column_after_kind column_after_rules column_part_made
+column_part_whole xs after_name after_kind rest named kind rules reads_name reads_kind reads_rules =
+    part_read name column_after_name any behind_part xs after_name named (read (column_part_made named kind rules) rest)
+    reads_name (λ named. starts_column_after_name named)
+    (part_read (one kind_of) (column_after_kind named) any behind_part after_name after_kind kind
+    (read (column_part_made named kind rules) rest) reads_kind (λ kind. starts_column_after_kind named kind)
+    (part_read (more next_rule []) (column_after_rules named kind) behind_part behind_part after_kind rest rules
+    (read (column_part_made named kind rules) rest) reads_rules (λ rules. starts_column_after_rules named kind rules)
+    (reads_gives (column_part_made named kind rules) (column_part_made named kind rules) behind_part rest refl)))
 
-pub column_part_at_1 : (xs y1 : List Token) (v1 : List ℕ) (f : Fault) → Reads name any xs (read v1 y1) →
-    Reads (one kind_of) any y1 (failed f) →
-    Reads (column_part) behind_part xs (failed f)
-unfolding column_part column_part_1 column_part_2 column_part_3 column_part_made
-column_part_at_1 xs y1 v1 f e1 e2 =
-    part_read name (column_part_1) any behind_part xs y1 v1 (failed f) e1 (λ v1. starts_column_part_1 v1)
-    (reads_bind_failed (one kind_of) (column_part_2 v1) any behind_part y1 f e2 (λ v2. starts_column_part_2 v1 v2)
-    (λ v2. spelled_column_part_2 v1 v2))
+-- [CONSTRAINT name], and a constraint of the table
+constraint_part_made : (named : Option (List ℕ)) → (body : TableConstraint) → TablePart
+constraint_part_made named body = part_of.Constraint named body
 
-pub column_part_at_2 : (xs y1 y2 : List Token) (v1 : List ℕ) (v2 : Kind) (f : Fault) → Reads name any xs (read v1 y1) →
-    Reads (one kind_of) any y1 (read v2 y2) →
-    Reads (more next_rule []) behind_part y2 (failed f) →
-    Reads (column_part) behind_part xs (failed f)
-unfolding column_part column_part_1 column_part_2 column_part_3 column_part_made
-column_part_at_2 xs y1 y2 v1 v2 f e1 e2 e3 =
-    part_read name (column_part_1) any behind_part xs y1 v1 (failed f) e1 (λ v1. starts_column_part_1 v1)
-    (part_read (one kind_of) (column_part_2 v1) any behind_part y1 y2 v2 (failed f) e2
-    (λ v2. starts_column_part_2 v1 v2)
-    (reads_bind_failed (more next_rule []) (column_part_3 v1 v2) behind_part behind_part y2 f e3
-    (λ v3. starts_column_part_3 v1 v2 v3) (λ v3. spelled_column_part_3 v1 v2 v3)))
+constraint_part_after_body : (named : Option (List ℕ)) → (body : TableConstraint) → Lang Token TablePart
+constraint_part_after_body named body = gives (constraint_part_made named body)
 
-pub column_part_at_3 : (xs y1 y2 y3 : List Token) (v1 : List ℕ) (v2 : Kind) (v3 : List ColumnRule) →
-    Reads name any xs (read v1 y1) →
-    Reads (one kind_of) any y1 (read v2 y2) →
-    Reads (more next_rule []) behind_part y2 (read v3 y3) →
-    Reads (column_part) behind_part xs (read (part_of.Column (record { name = v1; kind = v2; rules = v3 })) y3)
-unfolding column_part column_part_1 column_part_2 column_part_3 column_part_made
-column_part_at_3 xs y1 y2 y3 v1 v2 v3 e1 e2 e3 =
-    part_read name (column_part_1) any behind_part xs y1 v1 (read
-    (part_of.Column (record { name = v1; kind = v2; rules = v3 })) y3) e1 (λ v1. starts_column_part_1 v1)
-    (part_read (one kind_of) (column_part_2 v1) any behind_part y1 y2 v2
-    (read (part_of.Column (record { name = v1; kind = v2; rules = v3 })) y3) e2 (λ v2. starts_column_part_2 v1 v2)
-    (part_read (more next_rule []) (column_part_3 v1 v2) behind_part behind_part y2 y3 v3
-    (read (part_of.Column (record { name = v1; kind = v2; rules = v3 })) y3) e3 (λ v3. starts_column_part_3 v1 v2 v3)
-    (reads_gives (column_part_made v1 v2 v3) (column_part_made v1 v2 v3) behind_part y3 refl)))
+spelled_constraint_part_after_body : (named : Option (List ℕ)) → (body : TableConstraint) →
+    Spelled (constraint_part_after_body named body)
+unfolding constraint_part_after_body
+spelled_constraint_part_after_body named body = spelled_gives (constraint_part_made named body)
 
-constraint_part_made : (v1 : Option (List ℕ)) → (v2 : TableConstraint) → TablePart
-constraint_part_made v1 v2 = part_of.Constraint v1 v2
+constraint_part_after_name : (named : Option (List ℕ)) → Lang Token TablePart
+constraint_part_after_name named =
+    bind (bind (one constraint_of) table_constraint_behind) (constraint_part_after_body named)
 
-constraint_part_2 : (v1 : Option (List ℕ)) → (v2 : TableConstraint) → Lang Token TablePart
-constraint_part_2 v1 v2 = gives (constraint_part_made v1 v2)
+spelled_constraint_part_after_name : (named : Option (List ℕ)) → Spelled (constraint_part_after_name named)
+unfolding constraint_part_after_name
+spelled_constraint_part_after_name named =
+    spelled_bind (bind (one constraint_of) table_constraint_behind) (constraint_part_after_body named) spelled_by_word
+    (λ body. spelled_constraint_part_after_body named body)
 
-spelled_constraint_part_2 : (v1 : Option (List ℕ)) → (v2 : TableConstraint) → Spelled (constraint_part_2 v1 v2)
-unfolding constraint_part_2
-spelled_constraint_part_2 v1 v2 = spelled_gives (constraint_part_made v1 v2)
-
-constraint_part_1 : (v1 : Option (List ℕ)) → Lang Token TablePart
-constraint_part_1 v1 = bind (bind (one constraint_of) table_constraint_behind) (constraint_part_2 v1)
-
-spelled_constraint_part_1 : (v1 : Option (List ℕ)) → Spelled (constraint_part_1 v1)
-unfolding constraint_part_1
-spelled_constraint_part_1 v1 =
-    spelled_bind (bind (one constraint_of) table_constraint_behind) (constraint_part_2 v1) spelled_by_word
-    (λ u. spelled_constraint_part_2 v1 u)
-
-pub spelled_constraint_part : Spelled (constraint_part)
-unfolding constraint_part constraint_part_1 constraint_part_2 constraint_part_made
+pub spelled_constraint_part : Spelled constraint_part
+unfolding constraint_part constraint_part_after_name constraint_part_after_body constraint_part_made
 spelled_constraint_part =
-    spelled_bind (optional (word k.Constraint name)) (constraint_part_1) (spelled_optional (word k.Constraint name))
-    (λ u. spelled_constraint_part_1 u)
+    spelled_bind (optional (word k.Constraint name)) constraint_part_after_name
+    (spelled_optional (word k.Constraint name)) (λ named. spelled_constraint_part_after_name named)
 
-starts_constraint_part_1 : (v1 : Option (List ℕ)) → Starts behind_constraint_name (constraint_part_1 v1) any
-unfolding constraint_part_1 constraint_part_2 constraint_part_made
-starts_constraint_part_1 v1 =
-    starts_bind behind_constraint_name any any (bind (one constraint_of) table_constraint_behind) (constraint_part_2 v1)
-    (starts_by_word behind_constraint_name any primary_behind_constraint_name unique_behind_constraint_name check_behind_constraint_name) (λ v2. starts_any (constraint_part_2 v1 v2) any)
+starts_constraint_part_after_name : (named : Option (List ℕ)) →
+    Starts behind_constraint_name (constraint_part_after_name named) any
+unfolding constraint_part_after_name constraint_part_after_body constraint_part_made
+starts_constraint_part_after_name named =
+    starts_bind behind_constraint_name any any (bind (one constraint_of) table_constraint_behind)
+    (constraint_part_after_body named)
+    (starts_by_word behind_constraint_name any primary_behind_constraint_name unique_behind_constraint_name
+    check_behind_constraint_name) (λ body. starts_any (constraint_part_after_body named body) any)
 
-starts_constraint_part_2 : (v1 : Option (List ℕ)) → (v2 : TableConstraint) → Starts any (constraint_part_2 v1 v2) any
-unfolding constraint_part_1 constraint_part_2 constraint_part_made
-starts_constraint_part_2 v1 v2 = starts_any (constraint_part_2 v1 v2) any
+starts_constraint_part_after_body : (named : Option (List ℕ)) → (body : TableConstraint) →
+    Starts any (constraint_part_after_body named body) any
+unfolding constraint_part_after_name constraint_part_after_body constraint_part_made
+starts_constraint_part_after_body named body = starts_any (constraint_part_after_body named body) any
 
-pub constraint_part_at_0 : (xs : List Token) (f : Fault) →
+pub constraint_part_name_failed : (xs : List Token) (f : Fault) →
     Reads (optional (word k.Constraint name)) behind_constraint_name xs (failed f) →
-    Reads (constraint_part) any xs (failed f)
-unfolding constraint_part constraint_part_1 constraint_part_2 constraint_part_made
-constraint_part_at_0 xs f e1 =
-    reads_bind_failed (optional (word k.Constraint name)) (constraint_part_1) behind_constraint_name any xs f e1
-    (λ v1. starts_constraint_part_1 v1) (λ v1. spelled_constraint_part_1 v1)
+    Reads constraint_part any xs (failed f)
+unfolding constraint_part constraint_part_after_name constraint_part_after_body constraint_part_made
+constraint_part_name_failed xs f fails =
+    reads_bind_failed (optional (word k.Constraint name)) constraint_part_after_name behind_constraint_name any xs f
+    fails (λ named. starts_constraint_part_after_name named) (λ named. spelled_constraint_part_after_name named)
 
-pub constraint_part_at_1 : (xs y1 : List Token) (v1 : Option (List ℕ)) (f : Fault) →
-    Reads (optional (word k.Constraint name)) behind_constraint_name xs (read v1 y1) →
-    Reads (bind (one constraint_of) table_constraint_behind) any y1 (failed f) →
-    Reads (constraint_part) any xs (failed f)
-unfolding constraint_part constraint_part_1 constraint_part_2 constraint_part_made
-constraint_part_at_1 xs y1 v1 f e1 e2 =
-    part_read (optional (word k.Constraint name)) (constraint_part_1) behind_constraint_name any xs y1 v1 (failed f) e1
-    (λ v1. starts_constraint_part_1 v1)
-    (reads_bind_failed (bind (one constraint_of) table_constraint_behind) (constraint_part_2 v1) any any y1 f e2
-    (λ v2. starts_constraint_part_2 v1 v2) (λ v2. spelled_constraint_part_2 v1 v2))
+pub constraint_part_body_failed : (xs after_name : List Token) (named : Option (List ℕ)) (f : Fault) →
+    Reads (optional (word k.Constraint name)) behind_constraint_name xs (read named after_name) →
+    Reads (bind (one constraint_of) table_constraint_behind) any after_name (failed f) →
+    Reads constraint_part any xs (failed f)
+unfolding constraint_part constraint_part_after_name constraint_part_after_body constraint_part_made
+constraint_part_body_failed xs after_name named f reads_name fails =
+    part_read (optional (word k.Constraint name)) constraint_part_after_name behind_constraint_name any xs after_name
+    named (failed f) reads_name (λ named. starts_constraint_part_after_name named)
+    (reads_bind_failed (bind (one constraint_of) table_constraint_behind) (constraint_part_after_body named) any any
+    after_name f fails (λ body. starts_constraint_part_after_body named body)
+    (λ body. spelled_constraint_part_after_body named body))
 
-pub constraint_part_at_2 : (xs y1 y2 : List Token) (v1 : Option (List ℕ)) (v2 : TableConstraint) →
-    Reads (optional (word k.Constraint name)) behind_constraint_name xs (read v1 y1) →
-    Reads (bind (one constraint_of) table_constraint_behind) any y1 (read v2 y2) →
-    Reads (constraint_part) any xs (read (part_of.Constraint v1 v2) y2)
-unfolding constraint_part constraint_part_1 constraint_part_2 constraint_part_made
-constraint_part_at_2 xs y1 y2 v1 v2 e1 e2 =
-    part_read (optional (word k.Constraint name)) (constraint_part_1) behind_constraint_name any xs y1 v1
-    (read (part_of.Constraint v1 v2) y2) e1 (λ v1. starts_constraint_part_1 v1)
-    (part_read (bind (one constraint_of) table_constraint_behind) (constraint_part_2 v1) any any y1 y2 v2
-    (read (part_of.Constraint v1 v2) y2) e2 (λ v2. starts_constraint_part_2 v1 v2)
-    (reads_gives (constraint_part_made v1 v2) (constraint_part_made v1 v2) any y2 refl))
+pub constraint_part_whole : (xs after_name rest : List Token) (named : Option (List ℕ)) (body : TableConstraint) →
+    Reads (optional (word k.Constraint name)) behind_constraint_name xs (read named after_name) →
+    Reads (bind (one constraint_of) table_constraint_behind) any after_name (read body rest) →
+    Reads constraint_part any xs (read (part_of.Constraint named body) rest)
+unfolding constraint_part constraint_part_after_name constraint_part_after_body constraint_part_made
+constraint_part_whole xs after_name rest named body reads_name reads_body =
+    part_read (optional (word k.Constraint name)) constraint_part_after_name behind_constraint_name any xs after_name
+    named (read (part_of.Constraint named body) rest) reads_name (λ named. starts_constraint_part_after_name named)
+    (part_read (bind (one constraint_of) table_constraint_behind) (constraint_part_after_body named) any any after_name
+    rest body (read (part_of.Constraint named body) rest) reads_body
+    (λ body. starts_constraint_part_after_body named body)
+    (reads_gives (constraint_part_made named body) (constraint_part_made named body) any rest refl))
 
 -- a column or a constraint, by the first token
 constraint_begins : begins_constraint (Some (t.Keyword k.Constraint)) ≡ true
@@ -396,13 +396,13 @@ unfolding begins_constraint
 constraint_begins = refl
 
 starts_constraint_part : Starts begins_constraint constraint_part any
-unfolding constraint_part constraint_part_1 constraint_part_2 constraint_part_made begins_constraint
+unfolding constraint_part constraint_part_after_name constraint_part_after_body constraint_part_made begins_constraint
 starts_constraint_part =
-    starts_bind begins_constraint begins_constraint any (optional (word k.Constraint name)) constraint_part_1
+    starts_bind begins_constraint begins_constraint any (optional (word k.Constraint name)) constraint_part_after_name
     (starts_optional (t.Keyword k.Constraint) name begins_constraint refl)
-    (λ n. starts_bind begins_constraint any any (bind (one constraint_of) table_constraint_behind) (constraint_part_2 n)
-    (starts_by_word begins_constraint any refl refl refl)
-    (λ c. starts_any (constraint_part_2 n c) any))
+    (λ n. starts_bind begins_constraint any any (bind (one constraint_of) table_constraint_behind)
+    (constraint_part_after_body n) (starts_by_word begins_constraint any refl refl refl)
+    (λ c. starts_any (constraint_part_after_body n c) any))
 
 no_name_begins : (u : Token) (x : List ℕ) → begins_constraint (Some u) ≡ true → name_of u ≡ Some x → ⊥
 unfolding begins_constraint name_of may_be_name
@@ -414,12 +414,12 @@ no_name_begins _ x h e = false≢true h
 
 part_constraint : (xs : List Token) (o : Seen Token TablePart) → true ≡ begins_constraint (next xs) →
     Reads constraint_part any xs o → Reads part behind_part xs o
-unfolding part column_part column_part_1 column_part_2 column_part_3 column_part_made name
+unfolding part column_part column_after_name column_after_kind column_after_rules column_part_made name
 part_constraint xs o h r =
-    (leads_right (bind (one name_of) column_part_1) constraint_part behind_part xs
-    (bars_bind any behind_part (one name_of) column_part_1 1 xs
+    (leads_right (bind (one name_of) column_after_name) constraint_part behind_part xs
+    (bars_bind any behind_part (one name_of) column_after_name 1 xs
     (bars_one any name_of 0 xs (λ u x n e. no_name_begins u x (ap begins_constraint (sym n) ∙ sym h) e))
-    (λ x. starts_any (column_part_1 x) behind_part))).to o
+    (λ x. starts_any (column_after_name x) behind_part))).to o
     (reads_narrow constraint_part any behind_part xs o (λ o e. refl) r)
 
 any_bars : {V : Type 0} (L : Lang Token V) (g : Option Token → Bool) (j : ℕ) (xs : List Token) → Bars L any j xs →

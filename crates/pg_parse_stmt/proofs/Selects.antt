@@ -30,259 +30,332 @@ pub spelled_sources : Spelled from
 unfolding from
 spelled_sources = spelled_from source sources_of 0 (spelled_source 0)
 
-select_made : (v1 : List Item) → (v3 : List (Joined Source)) → (v4 : Option Tree) → (v5 : List OrderKey) →
-    (v6 : Option ℕ) → (v7 : Option Locking) → Select
-select_made v1 v3 v4 v5 v6 v7 = record { items = v1; from = v3; condition = v4; order = v5; limit = v6; locking = v7 }
+-- items FROM from [WHERE expr] [ORDER BY ..] [LIMIT integer] [FOR locked], behind SELECT
+select_made : (listed : List Item) → (sources : List (Joined Source)) → (filter : Option Tree) →
+    (keys : List OrderKey) → (bound : Option ℕ) → (lock : Option Locking) → Select
+select_made listed sources filter keys bound lock =
+    record { items = listed; from = sources; condition = filter; order = keys; limit = bound; locking = lock }
 
-select_7 : (v1 : List Item) → (v3 : List (Joined Source)) → (v4 : Option Tree) → (v5 : List OrderKey) →
-    (v6 : Option ℕ) → (v7 : Option Locking) → Lang Token Select
-select_7 v1 v3 v4 v5 v6 v7 = gives (select_made v1 v3 v4 v5 v6 v7)
+select_after_locking : (listed : List Item) → (sources : List (Joined Source)) → (filter : Option Tree) →
+    (keys : List OrderKey) → (bound : Option ℕ) → (lock : Option Locking) → Lang Token Select
+select_after_locking listed sources filter keys bound lock = gives (select_made listed sources filter keys bound lock)
 
-spelled_select_7 : (v1 : List Item) → (v3 : List (Joined Source)) → (v4 : Option Tree) → (v5 : List OrderKey) →
-    (v6 : Option ℕ) → (v7 : Option Locking) → Spelled (select_7 v1 v3 v4 v5 v6 v7)
-unfolding select_7
-spelled_select_7 v1 v3 v4 v5 v6 v7 = spelled_gives (select_made v1 v3 v4 v5 v6 v7)
+spelled_select_after_locking : (listed : List Item) → (sources : List (Joined Source)) → (filter : Option Tree) →
+    (keys : List OrderKey) → (bound : Option ℕ) → (lock : Option Locking) →
+    Spelled (select_after_locking listed sources filter keys bound lock)
+unfolding select_after_locking
+spelled_select_after_locking listed sources filter keys bound lock =
+    spelled_gives (select_made listed sources filter keys bound lock)
 
-select_6 : (v1 : List Item) → (v3 : List (Joined Source)) → (v4 : Option Tree) → (v5 : List OrderKey) →
-    (v6 : Option ℕ) → Lang Token Select
-select_6 v1 v3 v4 v5 v6 = bind locking (select_7 v1 v3 v4 v5 v6)
+select_after_limit : (listed : List Item) → (sources : List (Joined Source)) → (filter : Option Tree) →
+    (keys : List OrderKey) → (bound : Option ℕ) → Lang Token Select
+select_after_limit listed sources filter keys bound =
+    bind locking (select_after_locking listed sources filter keys bound)
 
-spelled_select_6 : (v1 : List Item) → (v3 : List (Joined Source)) → (v4 : Option Tree) → (v5 : List OrderKey) →
-    (v6 : Option ℕ) → Spelled (select_6 v1 v3 v4 v5 v6)
-unfolding select_6
-spelled_select_6 v1 v3 v4 v5 v6 =
-    spelled_bind locking (select_7 v1 v3 v4 v5 v6) spelled_locking (λ u. spelled_select_7 v1 v3 v4 v5 v6 u)
+spelled_select_after_limit : (listed : List Item) → (sources : List (Joined Source)) → (filter : Option Tree) →
+    (keys : List OrderKey) → (bound : Option ℕ) → Spelled (select_after_limit listed sources filter keys bound)
+unfolding select_after_limit
+spelled_select_after_limit listed sources filter keys bound =
+    spelled_bind locking (select_after_locking listed sources filter keys bound) spelled_locking
+    (λ lock. spelled_select_after_locking listed sources filter keys bound lock)
 
-select_5 : (v1 : List Item) → (v3 : List (Joined Source)) → (v4 : Option Tree) → (v5 : List OrderKey) →
+select_after_order : (listed : List Item) → (sources : List (Joined Source)) → (filter : Option Tree) →
+    (keys : List OrderKey) → Lang Token Select
+select_after_order listed sources filter keys = bind limit (select_after_limit listed sources filter keys)
+
+spelled_select_after_order : (listed : List Item) → (sources : List (Joined Source)) → (filter : Option Tree) →
+    (keys : List OrderKey) → Spelled (select_after_order listed sources filter keys)
+unfolding select_after_order
+spelled_select_after_order listed sources filter keys =
+    spelled_bind limit (select_after_limit listed sources filter keys) spelled_limit
+    (λ bound. spelled_select_after_limit listed sources filter keys bound)
+
+select_after_condition : (listed : List Item) → (sources : List (Joined Source)) → (filter : Option Tree) →
     Lang Token Select
-select_5 v1 v3 v4 v5 = bind limit (select_6 v1 v3 v4 v5)
+select_after_condition listed sources filter = bind order (select_after_order listed sources filter)
 
-spelled_select_5 : (v1 : List Item) → (v3 : List (Joined Source)) → (v4 : Option Tree) → (v5 : List OrderKey) →
-    Spelled (select_5 v1 v3 v4 v5)
-unfolding select_5
-spelled_select_5 v1 v3 v4 v5 =
-    spelled_bind limit (select_6 v1 v3 v4 v5) spelled_limit (λ u. spelled_select_6 v1 v3 v4 v5 u)
+spelled_select_after_condition : (listed : List Item) → (sources : List (Joined Source)) → (filter : Option Tree) →
+    Spelled (select_after_condition listed sources filter)
+unfolding select_after_condition
+spelled_select_after_condition listed sources filter =
+    spelled_bind order (select_after_order listed sources filter) spelled_order
+    (λ keys. spelled_select_after_order listed sources filter keys)
 
-select_4 : (v1 : List Item) → (v3 : List (Joined Source)) → (v4 : Option Tree) → Lang Token Select
-select_4 v1 v3 v4 = bind order (select_5 v1 v3 v4)
+select_after_sources : (listed : List Item) → (sources : List (Joined Source)) → Lang Token Select
+select_after_sources listed sources = bind condition (select_after_condition listed sources)
 
-spelled_select_4 : (v1 : List Item) → (v3 : List (Joined Source)) → (v4 : Option Tree) → Spelled (select_4 v1 v3 v4)
-unfolding select_4
-spelled_select_4 v1 v3 v4 = spelled_bind order (select_5 v1 v3 v4) spelled_order (λ u. spelled_select_5 v1 v3 v4 u)
+spelled_select_after_sources : (listed : List Item) → (sources : List (Joined Source)) →
+    Spelled (select_after_sources listed sources)
+unfolding select_after_sources
+spelled_select_after_sources listed sources =
+    spelled_bind condition (select_after_condition listed sources) spelled_where
+    (λ filter. spelled_select_after_condition listed sources filter)
 
-select_3 : (v1 : List Item) → (v3 : List (Joined Source)) → Lang Token Select
-select_3 v1 v3 = bind condition (select_4 v1 v3)
+select_after_from : (listed : List Item) → Lang Token Select
+select_after_from listed = bind from (select_after_sources listed)
 
-spelled_select_3 : (v1 : List Item) → (v3 : List (Joined Source)) → Spelled (select_3 v1 v3)
-unfolding select_3
-spelled_select_3 v1 v3 = spelled_bind condition (select_4 v1 v3) spelled_where (λ u. spelled_select_4 v1 v3 u)
+spelled_select_after_from : (listed : List Item) → Spelled (select_after_from listed)
+unfolding select_after_from
+spelled_select_after_from listed =
+    spelled_bind from (select_after_sources listed) spelled_sources
+    (λ sources. spelled_select_after_sources listed sources)
 
-select_2 : (v1 : List Item) → Lang Token Select
-select_2 v1 = bind from (select_3 v1)
+select_after_items : (listed : List Item) → Lang Token Select
+select_after_items listed = token (t.Keyword k.From) (select_after_from listed)
 
-spelled_select_2 : (v1 : List Item) → Spelled (select_2 v1)
-unfolding select_2
-spelled_select_2 v1 = spelled_bind from (select_3 v1) spelled_sources (λ u. spelled_select_3 v1 u)
+spelled_select_after_items : (listed : List Item) → Spelled (select_after_items listed)
+unfolding select_after_items
+spelled_select_after_items listed =
+    spelled_token (t.Keyword k.From) (select_after_from listed) (spelled_select_after_from listed)
 
-select_1 : (v1 : List Item) → Lang Token Select
-select_1 v1 = token (t.Keyword k.From) (select_2 v1)
+pub spelled_select : Spelled select
+unfolding select select_after_items select_after_from select_after_sources select_after_condition select_after_order
+    select_after_limit select_after_locking select_made
+spelled_select = spelled_bind items select_after_items spelled_items (λ listed. spelled_select_after_items listed)
 
-spelled_select_1 : (v1 : List Item) → Spelled (select_1 v1)
-unfolding select_1
-spelled_select_1 v1 = spelled_token (t.Keyword k.From) (select_2 v1) (spelled_select_2 v1)
+starts_select_after_items : (listed : List Item) → Starts behind_items (select_after_items listed) behind_statement
+unfolding select_after_items select_after_from select_after_sources select_after_condition select_after_order
+    select_after_limit select_after_locking select_made
+starts_select_after_items listed =
+    starts_token behind_items behind_statement (t.Keyword k.From) (select_after_from listed) from_behind_items
 
-pub spelled_select : Spelled (select)
-unfolding select select_1 select_2 select_3 select_4 select_5 select_6 select_7 select_made
-spelled_select = spelled_bind items (select_1) spelled_items (λ u. spelled_select_1 u)
+starts_select_after_sources : (listed : List Item) → (sources : List (Joined Source)) →
+    Starts behind_from (select_after_sources listed sources) behind_statement
+unfolding select_after_items select_after_from select_after_sources select_after_condition select_after_order
+    select_after_limit select_after_locking select_made
+starts_select_after_sources listed sources =
+    starts_bind behind_from behind_from behind_statement condition (select_after_condition listed sources)
+    (starts_where behind_from where_behind_from)
+    (λ filter. starts_bind behind_from behind_from behind_statement order (select_after_order listed sources filter)
+    (starts_order behind_from order_behind_from)
+    (λ keys. starts_bind behind_from behind_from behind_statement limit (select_after_limit listed sources filter keys)
+    (starts_limit behind_from limit_behind_from)
+    (λ bound. starts_bind behind_from behind_from behind_statement locking
+    (select_after_locking listed sources filter keys bound) (starts_locking behind_from for_behind_from)
+    (λ lock. starts_gives behind_from behind_statement (select_made listed sources filter keys bound lock)
+    end_behind_from))))
 
-starts_select_1 : (v1 : List Item) → Starts behind_items (select_1 v1) behind_statement
-unfolding select_1 select_2 select_3 select_4 select_5 select_6 select_7 select_made
-starts_select_1 v1 = starts_token behind_items behind_statement (t.Keyword k.From) (select_2 v1) from_behind_items
-
-starts_select_3 : (v1 : List Item) → (v3 : List (Joined Source)) → Starts behind_from (select_3 v1 v3) behind_statement
-unfolding select_1 select_2 select_3 select_4 select_5 select_6 select_7 select_made
-starts_select_3 v1 v3 =
-    starts_bind behind_from behind_from behind_statement condition (select_4 v1 v3)
-    (starts_where behind_from where_behind_from) (λ v4. starts_bind behind_from behind_from behind_statement order
-    (select_5 v1 v3 v4) (starts_order behind_from order_behind_from)
-    (λ v5. starts_bind behind_from behind_from behind_statement limit (select_6 v1 v3 v4 v5)
-    (starts_limit behind_from limit_behind_from) (λ v6. starts_bind behind_from behind_from behind_statement locking
-    (select_7 v1 v3 v4 v5 v6) (starts_locking behind_from for_behind_from)
-    (λ v7. starts_gives behind_from behind_statement (select_made v1 v3 v4 v5 v6 v7) (end_behind_from)))))
-
-starts_select_4 : (v1 : List Item) → (v3 : List (Joined Source)) → (v4 : Option Tree) →
-    Starts behind_condition (select_4 v1 v3 v4) behind_statement
-unfolding select_1 select_2 select_3 select_4 select_5 select_6 select_7 select_made
-starts_select_4 v1 v3 v4 =
-    starts_bind behind_condition behind_condition behind_statement order (select_5 v1 v3 v4)
+starts_select_after_condition : (listed : List Item) → (sources : List (Joined Source)) → (filter : Option Tree) →
+    Starts behind_condition (select_after_condition listed sources filter) behind_statement
+unfolding select_after_items select_after_from select_after_sources select_after_condition select_after_order
+    select_after_limit select_after_locking select_made
+starts_select_after_condition listed sources filter =
+    starts_bind behind_condition behind_condition behind_statement order (select_after_order listed sources filter)
     (starts_order behind_condition order_behind_condition)
-    (λ v5. starts_bind behind_condition behind_condition behind_statement limit (select_6 v1 v3 v4 v5)
-    (starts_limit behind_condition limit_behind_condition)
-    (λ v6. starts_bind behind_condition behind_condition behind_statement locking (select_7 v1 v3 v4 v5 v6)
-    (starts_locking behind_condition for_behind_condition) (λ v7. starts_gives behind_condition behind_statement
-    (select_made v1 v3 v4 v5 v6 v7) (end_behind_condition))))
+    (λ keys. starts_bind behind_condition behind_condition behind_statement limit
+    (select_after_limit listed sources filter keys) (starts_limit behind_condition limit_behind_condition)
+    (λ bound. starts_bind behind_condition behind_condition behind_statement locking
+    (select_after_locking listed sources filter keys bound) (starts_locking behind_condition for_behind_condition)
+    (λ lock. starts_gives behind_condition behind_statement (select_made listed sources filter keys bound lock)
+    end_behind_condition)))
 
-starts_select_5 : (v1 : List Item) → (v3 : List (Joined Source)) → (v4 : Option Tree) → (v5 : List OrderKey) →
-    Starts behind_order (select_5 v1 v3 v4 v5) behind_statement
-unfolding select_1 select_2 select_3 select_4 select_5 select_6 select_7 select_made
-starts_select_5 v1 v3 v4 v5 =
-    starts_bind behind_order behind_order behind_statement limit (select_6 v1 v3 v4 v5)
-    (starts_limit behind_order limit_behind_order) (λ v6. starts_bind behind_order behind_order behind_statement locking
-    (select_7 v1 v3 v4 v5 v6) (starts_locking behind_order for_behind_order)
-    (λ v7. starts_gives behind_order behind_statement (select_made v1 v3 v4 v5 v6 v7) (end_behind_order)))
+starts_select_after_order : (listed : List Item) → (sources : List (Joined Source)) → (filter : Option Tree) →
+    (keys : List OrderKey) → Starts behind_order (select_after_order listed sources filter keys) behind_statement
+unfolding select_after_items select_after_from select_after_sources select_after_condition select_after_order
+    select_after_limit select_after_locking select_made
+starts_select_after_order listed sources filter keys =
+    starts_bind behind_order behind_order behind_statement limit (select_after_limit listed sources filter keys)
+    (starts_limit behind_order limit_behind_order)
+    (λ bound. starts_bind behind_order behind_order behind_statement locking
+    (select_after_locking listed sources filter keys bound) (starts_locking behind_order for_behind_order)
+    (λ lock. starts_gives behind_order behind_statement (select_made listed sources filter keys bound lock)
+    end_behind_order))
 
-starts_select_6 : (v1 : List Item) → (v3 : List (Joined Source)) → (v4 : Option Tree) → (v5 : List OrderKey) →
-    (v6 : Option ℕ) → Starts behind_limit (select_6 v1 v3 v4 v5 v6) behind_statement
-unfolding select_1 select_2 select_3 select_4 select_5 select_6 select_7 select_made
-starts_select_6 v1 v3 v4 v5 v6 =
-    starts_bind behind_limit behind_limit behind_statement locking (select_7 v1 v3 v4 v5 v6)
-    (starts_locking behind_limit for_behind_limit) (λ v7. starts_gives behind_limit behind_statement
-    (select_made v1 v3 v4 v5 v6 v7) (end_behind_limit))
+starts_select_after_limit : (listed : List Item) → (sources : List (Joined Source)) → (filter : Option Tree) →
+    (keys : List OrderKey) → (bound : Option ℕ) →
+    Starts behind_limit (select_after_limit listed sources filter keys bound) behind_statement
+unfolding select_after_items select_after_from select_after_sources select_after_condition select_after_order
+    select_after_limit select_after_locking select_made
+starts_select_after_limit listed sources filter keys bound =
+    starts_bind behind_limit behind_limit behind_statement locking
+    (select_after_locking listed sources filter keys bound) (starts_locking behind_limit for_behind_limit)
+    (λ lock. starts_gives behind_limit behind_statement (select_made listed sources filter keys bound lock)
+    end_behind_limit)
 
-starts_select_7 : (v1 : List Item) → (v3 : List (Joined Source)) → (v4 : Option Tree) → (v5 : List OrderKey) →
-    (v6 : Option ℕ) → (v7 : Option Locking) → Starts behind_locking (select_7 v1 v3 v4 v5 v6 v7) behind_statement
-unfolding select_1 select_2 select_3 select_4 select_5 select_6 select_7 select_made
-starts_select_7 v1 v3 v4 v5 v6 v7 =
-    starts_gives behind_locking behind_statement (select_made v1 v3 v4 v5 v6 v7) (end_behind_locking)
+starts_select_after_locking : (listed : List Item) → (sources : List (Joined Source)) → (filter : Option Tree) →
+    (keys : List OrderKey) → (bound : Option ℕ) → (lock : Option Locking) →
+    Starts behind_locking (select_after_locking listed sources filter keys bound lock) behind_statement
+unfolding select_after_items select_after_from select_after_sources select_after_condition select_after_order
+    select_after_limit select_after_locking select_made
+starts_select_after_locking listed sources filter keys bound lock =
+    starts_gives behind_locking behind_statement (select_made listed sources filter keys bound lock) end_behind_locking
 
-pub select_at_0 : (xs : List Token) (f : Fault) → Reads items behind_items xs (failed f) →
-    Reads (select) behind_statement xs (failed f)
-unfolding select select_1 select_2 select_3 select_4 select_5 select_6 select_7 select_made
-select_at_0 xs f e1 =
-    reads_bind_failed items (select_1) behind_items behind_statement xs f e1 (λ v1. starts_select_1 v1)
-    (λ v1. spelled_select_1 v1)
+pub select_items_failed : (xs : List Token) (f : Fault) → Reads items behind_items xs (failed f) →
+    Reads select behind_statement xs (failed f)
+unfolding select select_after_items select_after_from select_after_sources select_after_condition select_after_order
+    select_after_limit select_after_locking select_made
+select_items_failed xs f fails =
+    reads_bind_failed items select_after_items behind_items behind_statement xs f fails
+    (λ listed. starts_select_after_items listed) (λ listed. spelled_select_after_items listed)
 
-pub select_at_1 : (xs y1 : List Token) (v1 : List Item) (l : ℕ) → Reads items behind_items xs (read v1 y1) →
-    Misses (t.Keyword k.From) y1 →
-    l ≡ length y1 →
-    Reads (select) behind_statement xs (failed (Syntax l))
-unfolding select select_1 select_2 select_3 select_4 select_5 select_6 select_7 select_made
-select_at_1 xs y1 v1 l e1 e2 q =
-    part_read items (select_1) behind_items behind_statement xs y1 v1 (failed (Syntax l)) e1 (λ v1. starts_select_1 v1)
-    (word_missed (t.Keyword k.From) (select_2 v1) behind_statement y1 l e2 q (spelled_select_2 v1))
+pub select_no_from : (xs after_items : List Token) (listed : List Item) (l : ℕ) →
+    Reads items behind_items xs (read listed after_items) →
+    Misses (t.Keyword k.From) after_items →
+    l ≡ length after_items →
+    Reads select behind_statement xs (failed (Syntax l))
+unfolding select select_after_items select_after_from select_after_sources select_after_condition select_after_order
+    select_after_limit select_after_locking select_made
+select_no_from xs after_items listed l reads_items miss q =
+    part_read items select_after_items behind_items behind_statement xs after_items listed (failed (Syntax l))
+    reads_items (λ listed. starts_select_after_items listed)
+    (word_missed (t.Keyword k.From) (select_after_from listed) behind_statement after_items l miss q
+    (spelled_select_after_from listed))
 
-pub select_at_2 : (xs y1 y2 : List Token) (v1 : List Item) (f : Fault) → Reads items behind_items xs (read v1 y1) →
-    y1 ≡ (t.Keyword k.From) ∷ y2 →
-    Reads from behind_from y2 (failed f) →
-    Reads (select) behind_statement xs (failed f)
-unfolding select select_1 select_2 select_3 select_4 select_5 select_6 select_7 select_made
-select_at_2 xs y1 y2 v1 f e1 e2 e3 =
-    part_read items (select_1) behind_items behind_statement xs y1 v1 (failed f) e1 (λ v1. starts_select_1 v1)
-    (word_read (t.Keyword k.From) (select_2 v1) behind_statement y1 y2 (failed f) e2
-    (reads_bind_failed from (select_3 v1) behind_from behind_statement y2 f e3 (λ v3. starts_select_3 v1 v3)
-    (λ v3. spelled_select_3 v1 v3)))
+pub select_sources_failed : (xs after_items after_from : List Token) (listed : List Item) (f : Fault) →
+    Reads items behind_items xs (read listed after_items) →
+    after_items ≡ (t.Keyword k.From) ∷ after_from →
+    Reads from behind_from after_from (failed f) →
+    Reads select behind_statement xs (failed f)
+unfolding select select_after_items select_after_from select_after_sources select_after_condition select_after_order
+    select_after_limit select_after_locking select_made
+select_sources_failed xs after_items after_from listed f reads_items at_from fails =
+    part_read items select_after_items behind_items behind_statement xs after_items listed (failed f) reads_items
+    (λ listed. starts_select_after_items listed)
+    (word_read (t.Keyword k.From) (select_after_from listed) behind_statement after_items after_from (failed f) at_from
+    (reads_bind_failed from (select_after_sources listed) behind_from behind_statement after_from f fails
+    (λ sources. starts_select_after_sources listed sources) (λ sources. spelled_select_after_sources listed sources)))
 
-pub select_at_3 : (xs y1 y2 y3 : List Token) (v1 : List Item) (v3 : List (Joined Source)) (f : Fault) →
-    Reads items behind_items xs (read v1 y1) →
-    y1 ≡ (t.Keyword k.From) ∷ y2 →
-    Reads from behind_from y2 (read v3 y3) →
-    Reads condition behind_condition y3 (failed f) →
-    Reads (select) behind_statement xs (failed f)
-unfolding select select_1 select_2 select_3 select_4 select_5 select_6 select_7 select_made
-select_at_3 xs y1 y2 y3 v1 v3 f e1 e2 e3 e4 =
-    part_read items (select_1) behind_items behind_statement xs y1 v1 (failed f) e1 (λ v1. starts_select_1 v1)
-    (word_read (t.Keyword k.From) (select_2 v1) behind_statement y1 y2 (failed f) e2
-    (part_read from (select_3 v1) behind_from behind_statement y2 y3 v3 (failed f) e3 (λ v3. starts_select_3 v1 v3)
-    (reads_bind_failed condition (select_4 v1 v3) behind_condition behind_statement y3 f e4
-    (λ v4. starts_select_4 v1 v3 v4) (λ v4. spelled_select_4 v1 v3 v4))))
+pub select_condition_failed : (xs after_items after_from after_sources : List Token) (listed : List Item)
+    (sources : List (Joined Source)) (f : Fault) →
+    Reads items behind_items xs (read listed after_items) →
+    after_items ≡ (t.Keyword k.From) ∷ after_from →
+    Reads from behind_from after_from (read sources after_sources) →
+    Reads condition behind_condition after_sources (failed f) →
+    Reads select behind_statement xs (failed f)
+unfolding select select_after_items select_after_from select_after_sources select_after_condition select_after_order
+    select_after_limit select_after_locking select_made
+select_condition_failed xs after_items after_from after_sources listed sources f reads_items at_from reads_sources fails
+    =
+    part_read items select_after_items behind_items behind_statement xs after_items listed (failed f) reads_items
+    (λ listed. starts_select_after_items listed)
+    (word_read (t.Keyword k.From) (select_after_from listed) behind_statement after_items after_from (failed f) at_from
+    (part_read from (select_after_sources listed) behind_from behind_statement after_from after_sources sources
+    (failed f) reads_sources (λ sources. starts_select_after_sources listed sources)
+    (reads_bind_failed condition (select_after_condition listed sources) behind_condition behind_statement after_sources
+    f fails (λ filter. starts_select_after_condition listed sources filter)
+    (λ filter. spelled_select_after_condition listed sources filter))))
 
-pub select_at_4 : (xs y1 y2 y3 y4 : List Token) (v1 : List Item) (v3 : List (Joined Source)) (v4 : Option Tree)
-    (f : Fault) → Reads items behind_items xs (read v1 y1) →
-    y1 ≡ (t.Keyword k.From) ∷ y2 →
-    Reads from behind_from y2 (read v3 y3) →
-    Reads condition behind_condition y3 (read v4 y4) →
-    Reads order behind_order y4 (failed f) →
-    Reads (select) behind_statement xs (failed f)
-unfolding select select_1 select_2 select_3 select_4 select_5 select_6 select_7 select_made
-select_at_4 xs y1 y2 y3 y4 v1 v3 v4 f e1 e2 e3 e4 e5 =
-    part_read items (select_1) behind_items behind_statement xs y1 v1 (failed f) e1 (λ v1. starts_select_1 v1)
-    (word_read (t.Keyword k.From) (select_2 v1) behind_statement y1 y2 (failed f) e2
-    (part_read from (select_3 v1) behind_from behind_statement y2 y3 v3 (failed f) e3 (λ v3. starts_select_3 v1 v3)
-    (part_read condition (select_4 v1 v3) behind_condition behind_statement y3 y4 v4 (failed f) e4
-    (λ v4. starts_select_4 v1 v3 v4)
-    (reads_bind_failed order (select_5 v1 v3 v4) behind_order behind_statement y4 f e5
-    (λ v5. starts_select_5 v1 v3 v4 v5) (λ v5. spelled_select_5 v1 v3 v4 v5)))))
+pub select_order_failed : (xs after_items after_from after_sources after_condition : List Token) (listed : List Item)
+    (sources : List (Joined Source)) (filter : Option Tree) (f : Fault) →
+    Reads items behind_items xs (read listed after_items) →
+    after_items ≡ (t.Keyword k.From) ∷ after_from →
+    Reads from behind_from after_from (read sources after_sources) →
+    Reads condition behind_condition after_sources (read filter after_condition) →
+    Reads order behind_order after_condition (failed f) →
+    Reads select behind_statement xs (failed f)
+unfolding select select_after_items select_after_from select_after_sources select_after_condition select_after_order
+    select_after_limit select_after_locking select_made
+select_order_failed xs after_items after_from after_sources after_condition listed sources filter f reads_items at_from
+    reads_sources reads_condition fails =
+    part_read items select_after_items behind_items behind_statement xs after_items listed (failed f) reads_items
+    (λ listed. starts_select_after_items listed)
+    (word_read (t.Keyword k.From) (select_after_from listed) behind_statement after_items after_from (failed f) at_from
+    (part_read from (select_after_sources listed) behind_from behind_statement after_from after_sources sources
+    (failed f) reads_sources (λ sources. starts_select_after_sources listed sources)
+    (part_read condition (select_after_condition listed sources) behind_condition behind_statement after_sources
+    after_condition filter (failed f) reads_condition (λ filter. starts_select_after_condition listed sources filter)
+    (reads_bind_failed order (select_after_order listed sources filter) behind_order behind_statement after_condition f
+    fails (λ keys. starts_select_after_order listed sources filter keys)
+    (λ keys. spelled_select_after_order listed sources filter keys)))))
 
-pub select_at_5 : (xs y1 y2 y3 y4 y5 : List Token) (v1 : List Item) (v3 : List (Joined Source)) (v4 : Option Tree)
-    (v5 : List OrderKey) (f : Fault) → Reads items behind_items xs (read v1 y1) →
-    y1 ≡ (t.Keyword k.From) ∷ y2 →
-    Reads from behind_from y2 (read v3 y3) →
-    Reads condition behind_condition y3 (read v4 y4) →
-    Reads order behind_order y4 (read v5 y5) →
-    Reads limit behind_limit y5 (failed f) →
-    Reads (select) behind_statement xs (failed f)
-unfolding select select_1 select_2 select_3 select_4 select_5 select_6 select_7 select_made
-select_at_5 xs y1 y2 y3 y4 y5 v1 v3 v4 v5 f e1 e2 e3 e4 e5 e6 =
-    part_read items (select_1) behind_items behind_statement xs y1 v1 (failed f) e1 (λ v1. starts_select_1 v1)
-    (word_read (t.Keyword k.From) (select_2 v1) behind_statement y1 y2 (failed f) e2
-    (part_read from (select_3 v1) behind_from behind_statement y2 y3 v3 (failed f) e3 (λ v3. starts_select_3 v1 v3)
-    (part_read condition (select_4 v1 v3) behind_condition behind_statement y3 y4 v4 (failed f) e4
-    (λ v4. starts_select_4 v1 v3 v4)
-    (part_read order (select_5 v1 v3 v4) behind_order behind_statement y4 y5 v5 (failed f) e5
-    (λ v5. starts_select_5 v1 v3 v4 v5)
-    (reads_bind_failed limit (select_6 v1 v3 v4 v5) behind_limit behind_statement y5 f e6
-    (λ v6. starts_select_6 v1 v3 v4 v5 v6) (λ v6. spelled_select_6 v1 v3 v4 v5 v6))))))
+pub select_limit_failed : (xs after_items after_from after_sources after_condition after_order : List Token)
+    (listed : List Item) (sources : List (Joined Source)) (filter : Option Tree) (keys : List OrderKey) (f : Fault) →
+    Reads items behind_items xs (read listed after_items) →
+    after_items ≡ (t.Keyword k.From) ∷ after_from →
+    Reads from behind_from after_from (read sources after_sources) →
+    Reads condition behind_condition after_sources (read filter after_condition) →
+    Reads order behind_order after_condition (read keys after_order) →
+    Reads limit behind_limit after_order (failed f) →
+    Reads select behind_statement xs (failed f)
+unfolding select select_after_items select_after_from select_after_sources select_after_condition select_after_order
+    select_after_limit select_after_locking select_made
+select_limit_failed xs after_items after_from after_sources after_condition after_order listed sources filter keys f
+    reads_items at_from reads_sources reads_condition reads_order fails =
+    part_read items select_after_items behind_items behind_statement xs after_items listed (failed f) reads_items
+    (λ listed. starts_select_after_items listed)
+    (word_read (t.Keyword k.From) (select_after_from listed) behind_statement after_items after_from (failed f) at_from
+    (part_read from (select_after_sources listed) behind_from behind_statement after_from after_sources sources
+    (failed f) reads_sources (λ sources. starts_select_after_sources listed sources)
+    (part_read condition (select_after_condition listed sources) behind_condition behind_statement after_sources
+    after_condition filter (failed f) reads_condition (λ filter. starts_select_after_condition listed sources filter)
+    (part_read order (select_after_order listed sources filter) behind_order behind_statement after_condition
+    after_order keys (failed f) reads_order (λ keys. starts_select_after_order listed sources filter keys)
+    (reads_bind_failed limit (select_after_limit listed sources filter keys) behind_limit behind_statement after_order f
+    fails (λ bound. starts_select_after_limit listed sources filter keys bound)
+    (λ bound. spelled_select_after_limit listed sources filter keys bound))))))
 
-pub select_at_6 : (xs y1 y2 y3 y4 y5 y6 : List Token) (v1 : List Item) (v3 : List (Joined Source)) (v4 : Option Tree)
-    (v5 : List OrderKey) (v6 : Option ℕ) (f : Fault) → Reads items behind_items xs (read v1 y1) →
-    y1 ≡ (t.Keyword k.From) ∷ y2 →
-    Reads from behind_from y2 (read v3 y3) →
-    Reads condition behind_condition y3 (read v4 y4) →
-    Reads order behind_order y4 (read v5 y5) →
-    Reads limit behind_limit y5 (read v6 y6) →
-    Reads locking behind_locking y6 (failed f) →
-    Reads (select) behind_statement xs (failed f)
-unfolding select select_1 select_2 select_3 select_4 select_5 select_6 select_7 select_made
-select_at_6 xs y1 y2 y3 y4 y5 y6 v1 v3 v4 v5 v6 f e1 e2 e3 e4 e5 e6 e7 =
-    part_read items (select_1) behind_items behind_statement xs y1 v1 (failed f) e1 (λ v1. starts_select_1 v1)
-    (word_read (t.Keyword k.From) (select_2 v1) behind_statement y1 y2 (failed f) e2
-    (part_read from (select_3 v1) behind_from behind_statement y2 y3 v3 (failed f) e3 (λ v3. starts_select_3 v1 v3)
-    (part_read condition (select_4 v1 v3) behind_condition behind_statement y3 y4 v4 (failed f) e4
-    (λ v4. starts_select_4 v1 v3 v4)
-    (part_read order (select_5 v1 v3 v4) behind_order behind_statement y4 y5 v5 (failed f) e5
-    (λ v5. starts_select_5 v1 v3 v4 v5)
-    (part_read limit (select_6 v1 v3 v4 v5) behind_limit behind_statement y5 y6 v6 (failed f) e6
-    (λ v6. starts_select_6 v1 v3 v4 v5 v6)
-    (reads_bind_failed locking (select_7 v1 v3 v4 v5 v6) behind_locking behind_statement y6 f e7
-    (λ v7. starts_select_7 v1 v3 v4 v5 v6 v7) (λ v7. spelled_select_7 v1 v3 v4 v5 v6 v7)))))))
+pub select_locking_failed :
+    (xs after_items after_from after_sources after_condition after_order after_limit : List Token) (listed : List Item)
+    (sources : List (Joined Source)) (filter : Option Tree) (keys : List OrderKey) (bound : Option ℕ) (f : Fault) →
+    Reads items behind_items xs (read listed after_items) →
+    after_items ≡ (t.Keyword k.From) ∷ after_from →
+    Reads from behind_from after_from (read sources after_sources) →
+    Reads condition behind_condition after_sources (read filter after_condition) →
+    Reads order behind_order after_condition (read keys after_order) →
+    Reads limit behind_limit after_order (read bound after_limit) →
+    Reads locking behind_locking after_limit (failed f) →
+    Reads select behind_statement xs (failed f)
+unfolding select select_after_items select_after_from select_after_sources select_after_condition select_after_order
+    select_after_limit select_after_locking select_made
+select_locking_failed xs after_items after_from after_sources after_condition after_order after_limit listed sources
+    filter keys bound f reads_items at_from reads_sources reads_condition reads_order reads_limit fails =
+    part_read items select_after_items behind_items behind_statement xs after_items listed (failed f) reads_items
+    (λ listed. starts_select_after_items listed)
+    (word_read (t.Keyword k.From) (select_after_from listed) behind_statement after_items after_from (failed f) at_from
+    (part_read from (select_after_sources listed) behind_from behind_statement after_from after_sources sources
+    (failed f) reads_sources (λ sources. starts_select_after_sources listed sources)
+    (part_read condition (select_after_condition listed sources) behind_condition behind_statement after_sources
+    after_condition filter (failed f) reads_condition (λ filter. starts_select_after_condition listed sources filter)
+    (part_read order (select_after_order listed sources filter) behind_order behind_statement after_condition
+    after_order keys (failed f) reads_order (λ keys. starts_select_after_order listed sources filter keys)
+    (part_read limit (select_after_limit listed sources filter keys) behind_limit behind_statement after_order
+    after_limit bound (failed f) reads_limit (λ bound. starts_select_after_limit listed sources filter keys bound)
+    (reads_bind_failed locking (select_after_locking listed sources filter keys bound) behind_locking behind_statement
+    after_limit f fails (λ lock. starts_select_after_locking listed sources filter keys bound lock)
+    (λ lock. spelled_select_after_locking listed sources filter keys bound lock)))))))
 
-pub select_at_7 : (xs y1 y2 y3 y4 y5 y6 y7 : List Token) (v1 : List Item) (v3 : List (Joined Source)) (v4 : Option Tree)
-    (v5 : List OrderKey) (v6 : Option ℕ) (v7 : Option Locking) → Reads items behind_items xs (read v1 y1) →
-    y1 ≡ (t.Keyword k.From) ∷ y2 →
-    Reads from behind_from y2 (read v3 y3) →
-    Reads condition behind_condition y3 (read v4 y4) →
-    Reads order behind_order y4 (read v5 y5) →
-    Reads limit behind_limit y5 (read v6 y6) →
-    Reads locking behind_locking y6 (read v7 y7) →
-    Reads (select) behind_statement xs (read (record {
+pub select_whole : (xs after_items after_from after_sources after_condition after_order after_limit rest : List Token)
+    (listed : List Item) (sources : List (Joined Source)) (filter : Option Tree) (keys : List OrderKey)
+    (bound : Option ℕ) (lock : Option Locking) →
+    Reads items behind_items xs (read listed after_items) →
+    after_items ≡ (t.Keyword k.From) ∷ after_from →
+    Reads from behind_from after_from (read sources after_sources) →
+    Reads condition behind_condition after_sources (read filter after_condition) →
+    Reads order behind_order after_condition (read keys after_order) →
+    Reads limit behind_limit after_order (read bound after_limit) →
+    Reads locking behind_locking after_limit (read lock rest) →
+    Reads select behind_statement xs (read (record {
       items =
-          v1;
-      from = v3;
-      condition = v4;
-      order = v5;
-      limit = v6;
-      locking = v7;
-    }) y7)
-unfolding select select_1 select_2 select_3 select_4 select_5 select_6 select_7 select_made
-select_at_7 xs y1 y2 y3 y4 y5 y6 y7 v1 v3 v4 v5 v6 v7 e1 e2 e3 e4 e5 e6 e7 =
-    part_read items (select_1) behind_items behind_statement xs y1 v1
-    (read (record { items = v1; from = v3; condition = v4; order = v5; limit = v6; locking = v7 }) y7) e1
-    (λ v1. starts_select_1 v1)
-    (word_read (t.Keyword k.From) (select_2 v1) behind_statement y1 y2
-    (read (record { items = v1; from = v3; condition = v4; order = v5; limit = v6; locking = v7 }) y7) e2
-    (part_read from (select_3 v1) behind_from behind_statement y2 y3 v3
-    (read (record { items = v1; from = v3; condition = v4; order = v5; limit = v6; locking = v7 }) y7) e3
-    (λ v3. starts_select_3 v1 v3)
-    (part_read condition (select_4 v1 v3) behind_condition behind_statement y3 y4 v4
-    (read (record { items = v1; from = v3; condition = v4; order = v5; limit = v6; locking = v7 }) y7) e4
-    (λ v4. starts_select_4 v1 v3 v4)
-    (part_read order (select_5 v1 v3 v4) behind_order behind_statement y4 y5 v5
-    (read (record { items = v1; from = v3; condition = v4; order = v5; limit = v6; locking = v7 }) y7) e5
-    (λ v5. starts_select_5 v1 v3 v4 v5)
-    (part_read limit (select_6 v1 v3 v4 v5) behind_limit behind_statement y5 y6 v6
-    (read (record { items = v1; from = v3; condition = v4; order = v5; limit = v6; locking = v7 }) y7) e6
-    (λ v6. starts_select_6 v1 v3 v4 v5 v6)
-    (part_read locking (select_7 v1 v3 v4 v5 v6) behind_locking behind_statement y6 y7 v7
-    (read (record { items = v1; from = v3; condition = v4; order = v5; limit = v6; locking = v7 }) y7) e7
-    (λ v7. starts_select_7 v1 v3 v4 v5 v6 v7)
-    (reads_gives (select_made v1 v3 v4 v5 v6 v7) (select_made v1 v3 v4 v5 v6 v7) behind_statement y7 refl)))))))
+          listed;
+      from = sources;
+      condition = filter;
+      order = keys;
+      limit = bound;
+      locking = lock;
+    }) rest)
+unfolding select select_after_items select_after_from select_after_sources select_after_condition select_after_order
+    select_after_limit select_after_locking select_made
+select_whole xs after_items after_from after_sources after_condition after_order after_limit rest listed sources filter
+    keys bound lock reads_items at_from reads_sources reads_condition reads_order reads_limit reads_locking =
+    part_read items select_after_items behind_items behind_statement xs after_items listed
+    (read (select_made listed sources filter keys bound lock) rest) reads_items
+    (λ listed. starts_select_after_items listed)
+    (word_read (t.Keyword k.From) (select_after_from listed) behind_statement after_items after_from
+    (read (select_made listed sources filter keys bound lock) rest) at_from
+    (part_read from (select_after_sources listed) behind_from behind_statement after_from after_sources sources
+    (read (select_made listed sources filter keys bound lock) rest) reads_sources
+    (λ sources. starts_select_after_sources listed sources)
+    (part_read condition (select_after_condition listed sources) behind_condition behind_statement after_sources
+    after_condition filter (read (select_made listed sources filter keys bound lock) rest) reads_condition
+    (λ filter. starts_select_after_condition listed sources filter)
+    (part_read order (select_after_order listed sources filter) behind_order behind_statement after_condition
+    after_order keys (read (select_made listed sources filter keys bound lock) rest) reads_order
+    (λ keys. starts_select_after_order listed sources filter keys)
+    (part_read limit (select_after_limit listed sources filter keys) behind_limit behind_statement after_order
+    after_limit bound (read (select_made listed sources filter keys bound lock) rest) reads_limit
+    (λ bound. starts_select_after_limit listed sources filter keys bound)
+    (part_read locking (select_after_locking listed sources filter keys bound) behind_locking behind_statement
+    after_limit rest lock (read (select_made listed sources filter keys bound lock) rest) reads_locking
+    (λ lock. starts_select_after_locking listed sources filter keys bound lock)
+    (reads_gives (select_made listed sources filter keys bound lock) (select_made listed sources filter keys bound lock)
+    behind_statement rest refl)))))))

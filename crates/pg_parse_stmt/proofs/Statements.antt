@@ -107,36 +107,42 @@ spelled_read_word : (x : StmtTree) → Spelled (read_word x)
 unfolding read_word
 spelled_read_word x = spelled_token (t.Keyword k.Read) (committed_word x) (spelled_committed_word x)
 
-pub committed_at_0 : (x : StmtTree) (xs : List Token) (l : ℕ) → Misses (t.Keyword k.Level) xs → l ≡ length xs →
+pub committed_no_level : (x : StmtTree) (xs : List Token) (l : ℕ) → Misses (t.Keyword k.Level) xs → l ≡ length xs →
     Reads (committed x) any xs (failed (Syntax l))
 unfolding committed read_word committed_word
-committed_at_0 x xs l miss q = word_missed (t.Keyword k.Level) (read_word x) any xs l miss q (spelled_read_word x)
+committed_no_level x xs l miss q = word_missed (t.Keyword k.Level) (read_word x) any xs l miss q (spelled_read_word x)
 
-pub committed_at_1 : (x : StmtTree) (xs ys : List Token) (l : ℕ) → xs ≡ t.Keyword k.Level ∷ ys →
-    Misses (t.Keyword k.Read) ys →
-    l ≡ length ys → Reads (committed x) any xs (failed (Syntax l))
+pub committed_no_read : (x : StmtTree) (xs after_level : List Token) (l : ℕ) → xs ≡ t.Keyword k.Level ∷ after_level →
+    Misses (t.Keyword k.Read) after_level →
+    l ≡ length after_level → Reads (committed x) any xs (failed (Syntax l))
 unfolding committed read_word committed_word
-committed_at_1 x xs ys l e miss q =
-    word_read (t.Keyword k.Level) (read_word x) any xs ys (failed (Syntax l)) e
-    (word_missed (t.Keyword k.Read) (committed_word x) any ys l miss q (spelled_committed_word x))
+committed_no_read x xs after_level l at_level miss q =
+    word_read (t.Keyword k.Level) (read_word x) any xs after_level (failed (Syntax l)) at_level
+    (word_missed (t.Keyword k.Read) (committed_word x) any after_level l miss q (spelled_committed_word x))
 
-pub committed_at_2 : (x : StmtTree) (xs ys zs : List Token) (l : ℕ) → xs ≡ t.Keyword k.Level ∷ ys →
-    ys ≡ t.Keyword k.Read ∷ zs →
-    Misses (t.Keyword k.Committed) zs → l ≡ length zs → Reads (committed x) any xs (failed (Syntax l))
+pub committed_no_word : (x : StmtTree) (xs after_level after_read : List Token) (l : ℕ) →
+    xs ≡ t.Keyword k.Level ∷ after_level →
+    after_level ≡ t.Keyword k.Read ∷ after_read →
+    Misses (t.Keyword k.Committed) after_read →
+    l ≡ length after_read →
+    Reads (committed x) any xs (failed (Syntax l))
 unfolding committed read_word committed_word
-committed_at_2 x xs ys zs l e i miss q =
-    word_read (t.Keyword k.Level) (read_word x) any xs ys (failed (Syntax l)) e
-    (word_read (t.Keyword k.Read) (committed_word x) any ys zs (failed (Syntax l)) i
-    (word_missed (t.Keyword k.Committed) (gives x) any zs l miss q (spelled_gives x)))
+committed_no_word x xs after_level after_read l at_level at_read miss q =
+    word_read (t.Keyword k.Level) (read_word x) any xs after_level (failed (Syntax l)) at_level
+    (word_read (t.Keyword k.Read) (committed_word x) any after_level after_read (failed (Syntax l)) at_read
+    (word_missed (t.Keyword k.Committed) (gives x) any after_read l miss q (spelled_gives x)))
 
-pub committed_at_3 : (x : StmtTree) (xs ys zs ws : List Token) → xs ≡ t.Keyword k.Level ∷ ys →
-    ys ≡ t.Keyword k.Read ∷ zs →
-    zs ≡ t.Keyword k.Committed ∷ ws → Reads (committed x) any xs (read x ws)
+pub committed_whole : (x : StmtTree) (xs after_level after_read rest : List Token) →
+    xs ≡ t.Keyword k.Level ∷ after_level →
+    after_level ≡ t.Keyword k.Read ∷ after_read →
+    after_read ≡ t.Keyword k.Committed ∷ rest →
+    Reads (committed x) any xs (read x rest)
 unfolding committed read_word committed_word
-committed_at_3 x xs ys zs ws e i j =
-    word_read (t.Keyword k.Level) (read_word x) any xs ys (read x ws) e
-    (word_read (t.Keyword k.Read) (committed_word x) any ys zs (read x ws) i
-    (word_read (t.Keyword k.Committed) (gives x) any zs ws (read x ws) j (reads_gives x x any ws refl)))
+committed_whole x xs after_level after_read rest at_level at_read at_committed =
+    word_read (t.Keyword k.Level) (read_word x) any xs after_level (read x rest) at_level
+    (word_read (t.Keyword k.Read) (committed_word x) any after_level after_read (read x rest) at_read
+    (word_read (t.Keyword k.Committed) (gives x) any after_read rest (read x rest) at_committed
+    (reads_gives x x any rest refl)))
 
 spelled_committed : (x : StmtTree) → Spelled (committed x)
 unfolding committed read_word committed_word

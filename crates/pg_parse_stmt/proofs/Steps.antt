@@ -4,14 +4,18 @@ use Rattle.pg_grammar.specs.declared.fault.Fault.{Fault}
 use Rattle.pg_grammar.specs.declared.fault.Fault.TheVariants.{Syntax}
 use Rattle.pg_grammar.specs.Languages.{Lang, gives, token, bind}
 use Rattle.pg_grammar.specs.Answers.{next, Misses, Seen, read, failed, Reads}
-use Rattle.std.specs.Prelude.{◌&&◌}
+use Rattle.std.specs.Prelude.{not, ◌&&◌}
+use Rattle.std.proofs.lemmas.Slice.Eq.{bytes_eq-Decides}
 use Rattle.pg_grammar.proofs.Leading.{Leads, leads_on, reads_narrow}
 use Rattle.pg_grammar.proofs.Words.{Starts, Spelled, starts_gives, starts_token, starts_bind, starts_either, spelled_gives, spelled_token, bars_token, bars_bind, bars_gives}
 use Rattle.pg_grammar.proofs.Combining.{reads_gives, reads_refused, leads_token, leads_bind, reads_bind_failed, leads_left, leads_right, leads_token_bind}
+use Rattle.pg_lexer.specs.Keywords.{spelling}
+use Rattle.pg_lexer.specs.declared.keyword.Keyword.{Keyword}
 use Rattle.pg_lexer.specs.declared.token.Token.{Token}
-use Rattle.pg_parse_stmt.specs.Behind.{any}
-use Rattle.pg_parse_stmt.specs.Forms.{or_else, optional}
-use Rattle.pg_parse_stmt.proofs.Lists.{starts_any}
+use Rattle.pg_lexer.specs.declared.token.Token.TheVariants as t
+use Rattle.pg_parse_stmt.specs.Behind.{any, is_word, behind_optional}
+use Rattle.pg_parse_stmt.specs.Forms.{word, or_else, optional}
+use Rattle.pg_parse_stmt.proofs.Lists.{starts_any, and_left}
 
 pub word_read : {V : Type 0} (t : Token) (L : Lang Token V) (g : Option Token → Bool) (xs ys : List Token)
     (o : Seen Token V) → xs ≡ t ∷ ys →
@@ -87,6 +91,32 @@ none_read t L g xs miss =
     (bars_bind any g (token t L) (λ v. gives (Some v)) 1 xs (bars_token any t L 0 xs (λ n. miss.misses n))
     (λ v. starts_any (gives (Some v)) g))).to (read None xs)
     (reads_gives None None g xs refl)
+
+-- [w L], where b may stand behind L
+module _ {V : Type 0} (w : Keyword) (L : Lang Token V) (b : Option Token → Bool) where
+  goes_on : behind_optional w b (Some (t.Keyword w)) ≡ false
+  unfolding behind_optional is_word
+  goes_on = rw ((bytes_eq-Decides (spelling w) (spelling w)).1 refl) (closed (b (Some (t.Keyword w))))
+    where
+      closed : (x : Bool) → (x && false) ≡ false
+      closed true = refl
+      closed false = refl
+
+  below : (o : Option Token) → behind_optional w b o ≡ true → b o ≡ true
+  unfolding behind_optional
+  below o e = and_left (b o) (not (is_word w o)) e
+
+  pub optional_read : (xs ys zs : List Token) (v : V) → xs ≡ t.Keyword w ∷ ys → Reads L b ys (read v zs) →
+      Reads (optional (word w L)) (behind_optional w b) xs (read (Some v) zs)
+  optional_read xs ys zs v e r = some_read (t.Keyword w) L b (behind_optional w b) below xs ys zs v goes_on e r
+
+  pub optional_failed : (xs ys : List Token) (f : Fault) → xs ≡ t.Keyword w ∷ ys → Reads L b ys (failed f) →
+      Reads (optional (word w L)) (behind_optional w b) xs (failed f)
+  optional_failed xs ys f e r = some_failed (t.Keyword w) L b (behind_optional w b) below xs ys f goes_on e r
+
+  pub optional_none : (xs : List Token) → Misses (t.Keyword w) xs →
+      Reads (optional (word w L)) (behind_optional w b) xs (read None xs)
+  optional_none xs miss = none_read (t.Keyword w) L (behind_optional w b) xs miss
 
 -- [t L] begins with t, or with what stands behind it
 pub starts_or : {V : Type 0} (x : V) (t : Token) (L : Lang Token V) (b : Option Token → Bool) → b (Some t) ≡ true →

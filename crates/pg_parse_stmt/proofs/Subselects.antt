@@ -22,118 +22,151 @@ use Rattle.pg_parse_stmt.proofs.Conditions.{starts_where, spelled_where}
 use Rattle.pg_parse_stmt.proofs.Sources.{spelled_tables}
 use Rattle.pg_parse_stmt.proofs.Following.{from_behind_items, subselect_end_behind_condition, subselect_end_behind_from, where_behind_from}
 
-subselect_made : (v1 : List Item) → (v3 : List (Joined TableRef)) → (v4 : Option Tree) → Subselect
-subselect_made v1 v3 v4 = record { items = v1; from = v3; condition = v4 }
+-- items FROM from [WHERE expr], behind SELECT
+subselect_made : (listed : List Item) → (sources : List (Joined TableRef)) → (filter : Option Tree) → Subselect
+subselect_made listed sources filter = record { items = listed; from = sources; condition = filter }
 
-subselect_4 : (n : ℕ) → (v1 : List Item) → (v3 : List (Joined TableRef)) → (v4 : Option Tree) → Lang Token Subselect
-subselect_4 n v1 v3 v4 = gives (subselect_made v1 v3 v4)
+subselect_after_condition : (n : ℕ) → (listed : List Item) → (sources : List (Joined TableRef)) →
+    (filter : Option Tree) → Lang Token Subselect
+subselect_after_condition n listed sources filter = gives (subselect_made listed sources filter)
 
-spelled_subselect_4 : (n : ℕ) → (v1 : List Item) → (v3 : List (Joined TableRef)) → (v4 : Option Tree) →
-    Spelled (subselect_4 n v1 v3 v4)
-unfolding subselect_4
-spelled_subselect_4 n v1 v3 v4 = spelled_gives (subselect_made v1 v3 v4)
+spelled_subselect_after_condition : (n : ℕ) → (listed : List Item) → (sources : List (Joined TableRef)) →
+    (filter : Option Tree) → Spelled (subselect_after_condition n listed sources filter)
+unfolding subselect_after_condition
+spelled_subselect_after_condition n listed sources filter = spelled_gives (subselect_made listed sources filter)
 
-subselect_3 : (n : ℕ) → (v1 : List Item) → (v3 : List (Joined TableRef)) → Lang Token Subselect
-subselect_3 n v1 v3 = bind condition (subselect_4 n v1 v3)
+subselect_after_sources : (n : ℕ) → (listed : List Item) → (sources : List (Joined TableRef)) → Lang Token Subselect
+subselect_after_sources n listed sources = bind condition (subselect_after_condition n listed sources)
 
-spelled_subselect_3 : (n : ℕ) → (v1 : List Item) → (v3 : List (Joined TableRef)) → Spelled (subselect_3 n v1 v3)
-unfolding subselect_3
-spelled_subselect_3 n v1 v3 =
-    spelled_bind condition (subselect_4 n v1 v3) spelled_where (λ u. spelled_subselect_4 n v1 v3 u)
+spelled_subselect_after_sources : (n : ℕ) → (listed : List Item) → (sources : List (Joined TableRef)) →
+    Spelled (subselect_after_sources n listed sources)
+unfolding subselect_after_sources
+spelled_subselect_after_sources n listed sources =
+    spelled_bind condition (subselect_after_condition n listed sources) spelled_where
+    (λ filter. spelled_subselect_after_condition n listed sources filter)
 
-subselect_2 : (n : ℕ) → (v1 : List Item) → Lang Token Subselect
-subselect_2 n v1 = bind (from_of table_source one_source n) (subselect_3 n v1)
+subselect_after_from : (n : ℕ) → (listed : List Item) → Lang Token Subselect
+subselect_after_from n listed = bind (from_of table_source one_source n) (subselect_after_sources n listed)
 
-spelled_subselect_2 : (n : ℕ) → (v1 : List Item) → Spelled (subselect_2 n v1)
-unfolding subselect_2
-spelled_subselect_2 n v1 =
-    spelled_bind (from_of table_source one_source n) (subselect_3 n v1) (spelled_tables n)
-    (λ u. spelled_subselect_3 n v1 u)
+spelled_subselect_after_from : (n : ℕ) → (listed : List Item) → Spelled (subselect_after_from n listed)
+unfolding subselect_after_from
+spelled_subselect_after_from n listed =
+    spelled_bind (from_of table_source one_source n) (subselect_after_sources n listed) (spelled_tables n)
+    (λ sources. spelled_subselect_after_sources n listed sources)
 
-subselect_1 : (n : ℕ) → (v1 : List Item) → Lang Token Subselect
-subselect_1 n v1 = token (t.Keyword k.From) (subselect_2 n v1)
+subselect_after_items : (n : ℕ) → (listed : List Item) → Lang Token Subselect
+subselect_after_items n listed = token (t.Keyword k.From) (subselect_after_from n listed)
 
-spelled_subselect_1 : (n : ℕ) → (v1 : List Item) → Spelled (subselect_1 n v1)
-unfolding subselect_1
-spelled_subselect_1 n v1 = spelled_token (t.Keyword k.From) (subselect_2 n v1) (spelled_subselect_2 n v1)
+spelled_subselect_after_items : (n : ℕ) → (listed : List Item) → Spelled (subselect_after_items n listed)
+unfolding subselect_after_items
+spelled_subselect_after_items n listed =
+    spelled_token (t.Keyword k.From) (subselect_after_from n listed) (spelled_subselect_after_from n listed)
 
 pub spelled_subselect : (n : ℕ) → Spelled (subselect n)
-unfolding subselect subselect_1 subselect_2 subselect_3 subselect_4 subselect_made
-spelled_subselect n = spelled_bind items (subselect_1 n) spelled_items (λ u. spelled_subselect_1 n u)
+unfolding subselect subselect_after_items subselect_after_from subselect_after_sources subselect_after_condition
+    subselect_made
+spelled_subselect n =
+    spelled_bind items (subselect_after_items n) spelled_items (λ listed. spelled_subselect_after_items n listed)
 
-starts_subselect_1 : (n : ℕ) → (v1 : List Item) → Starts behind_items (subselect_1 n v1) behind_subselect
-unfolding subselect_1 subselect_2 subselect_3 subselect_4 subselect_made
-starts_subselect_1 n v1 =
-    starts_token behind_items behind_subselect (t.Keyword k.From) (subselect_2 n v1) from_behind_items
+starts_subselect_after_items : (n : ℕ) → (listed : List Item) →
+    Starts behind_items (subselect_after_items n listed) behind_subselect
+unfolding subselect_after_items subselect_after_from subselect_after_sources subselect_after_condition subselect_made
+starts_subselect_after_items n listed =
+    starts_token behind_items behind_subselect (t.Keyword k.From) (subselect_after_from n listed) from_behind_items
 
-starts_subselect_3 : (n : ℕ) → (v1 : List Item) → (v3 : List (Joined TableRef)) →
-    Starts behind_from (subselect_3 n v1 v3) behind_subselect
-unfolding subselect_1 subselect_2 subselect_3 subselect_4 subselect_made
-starts_subselect_3 n v1 v3 =
-    starts_bind behind_from behind_from behind_subselect condition (subselect_4 n v1 v3)
-    (starts_where behind_from where_behind_from) (λ v4. starts_gives behind_from behind_subselect
-    (subselect_made v1 v3 v4) (subselect_end_behind_from))
+starts_subselect_after_sources : (n : ℕ) → (listed : List Item) → (sources : List (Joined TableRef)) →
+    Starts behind_from (subselect_after_sources n listed sources) behind_subselect
+unfolding subselect_after_items subselect_after_from subselect_after_sources subselect_after_condition subselect_made
+starts_subselect_after_sources n listed sources =
+    starts_bind behind_from behind_from behind_subselect condition (subselect_after_condition n listed sources)
+    (starts_where behind_from where_behind_from) (λ filter. starts_gives behind_from behind_subselect
+    (subselect_made listed sources filter) subselect_end_behind_from)
 
-starts_subselect_4 : (n : ℕ) → (v1 : List Item) → (v3 : List (Joined TableRef)) → (v4 : Option Tree) →
-    Starts behind_condition (subselect_4 n v1 v3 v4) behind_subselect
-unfolding subselect_1 subselect_2 subselect_3 subselect_4 subselect_made
-starts_subselect_4 n v1 v3 v4 =
-    starts_gives behind_condition behind_subselect (subselect_made v1 v3 v4) (subselect_end_behind_condition)
+starts_subselect_after_condition : (n : ℕ) → (listed : List Item) → (sources : List (Joined TableRef)) →
+    (filter : Option Tree) →
+    Starts behind_condition (subselect_after_condition n listed sources filter) behind_subselect
+unfolding subselect_after_items subselect_after_from subselect_after_sources subselect_after_condition subselect_made
+starts_subselect_after_condition n listed sources filter =
+    starts_gives behind_condition behind_subselect (subselect_made listed sources filter) subselect_end_behind_condition
 
-pub subselect_at_0 : (n : ℕ) (xs : List Token) (f : Fault) → Reads items behind_items xs (failed f) →
+pub subselect_items_failed : (n : ℕ) (xs : List Token) (f : Fault) → Reads items behind_items xs (failed f) →
     Reads (subselect n) behind_subselect xs (failed f)
-unfolding subselect subselect_1 subselect_2 subselect_3 subselect_4 subselect_made
-subselect_at_0 n xs f e1 =
-    reads_bind_failed items (subselect_1 n) behind_items behind_subselect xs f e1 (λ v1. starts_subselect_1 n v1)
-    (λ v1. spelled_subselect_1 n v1)
+unfolding subselect subselect_after_items subselect_after_from subselect_after_sources subselect_after_condition
+    subselect_made
+subselect_items_failed n xs f fails =
+    reads_bind_failed items (subselect_after_items n) behind_items behind_subselect xs f fails
+    (λ listed. starts_subselect_after_items n listed) (λ listed. spelled_subselect_after_items n listed)
 
-pub subselect_at_1 : (n : ℕ) (xs y1 : List Token) (v1 : List Item) (l : ℕ) → Reads items behind_items xs (read v1 y1) →
-    Misses (t.Keyword k.From) y1 → l ≡ length y1 →
+pub subselect_no_from : (n : ℕ) (xs after_items : List Token) (listed : List Item) (l : ℕ) →
+    Reads items behind_items xs (read listed after_items) →
+    Misses (t.Keyword k.From) after_items →
+    l ≡ length after_items →
     Reads (subselect n) behind_subselect xs (failed (Syntax l))
-unfolding subselect subselect_1 subselect_2 subselect_3 subselect_4 subselect_made
-subselect_at_1 n xs y1 v1 l e1 e2 q =
-    part_read items (subselect_1 n) behind_items behind_subselect xs y1 v1 (failed (Syntax l)) e1
-    (λ v1. starts_subselect_1 n v1)
-    (word_missed (t.Keyword k.From) (subselect_2 n v1) behind_subselect y1 l e2 q (spelled_subselect_2 n v1))
+unfolding subselect subselect_after_items subselect_after_from subselect_after_sources subselect_after_condition
+    subselect_made
+subselect_no_from n xs after_items listed l reads_items miss q =
+    part_read items (subselect_after_items n) behind_items behind_subselect xs after_items listed (failed (Syntax l))
+    reads_items (λ listed. starts_subselect_after_items n listed)
+    (word_missed (t.Keyword k.From) (subselect_after_from n listed) behind_subselect after_items l miss q
+    (spelled_subselect_after_from n listed))
 
-pub subselect_at_2 : (n : ℕ) (xs y1 y2 : List Token) (v1 : List Item) (f : Fault) →
-    Reads items behind_items xs (read v1 y1) → y1 ≡ (t.Keyword k.From) ∷ y2 →
-    Reads (from_of table_source one_source n) behind_from y2 (failed f) →
+pub subselect_sources_failed : (n : ℕ) (xs after_items after_from : List Token) (listed : List Item) (f : Fault) →
+    Reads items behind_items xs (read listed after_items) → after_items ≡ (t.Keyword k.From) ∷ after_from →
+    Reads (from_of table_source one_source n) behind_from after_from (failed f) →
     Reads (subselect n) behind_subselect xs (failed f)
-unfolding subselect subselect_1 subselect_2 subselect_3 subselect_4 subselect_made
-subselect_at_2 n xs y1 y2 v1 f e1 e2 e3 =
-    part_read items (subselect_1 n) behind_items behind_subselect xs y1 v1 (failed f) e1 (λ v1. starts_subselect_1 n v1)
-    (word_read (t.Keyword k.From) (subselect_2 n v1) behind_subselect y1 y2 (failed f) e2
-    (reads_bind_failed (from_of table_source one_source n) (subselect_3 n v1) behind_from behind_subselect y2 f e3
-    (λ v3. starts_subselect_3 n v1 v3) (λ v3. spelled_subselect_3 n v1 v3)))
+unfolding subselect subselect_after_items subselect_after_from subselect_after_sources subselect_after_condition
+    subselect_made
+subselect_sources_failed n xs after_items after_from listed f reads_items at_from fails =
+    part_read items (subselect_after_items n) behind_items behind_subselect xs after_items listed (failed f) reads_items
+    (λ listed. starts_subselect_after_items n listed)
+    (word_read (t.Keyword k.From) (subselect_after_from n listed) behind_subselect after_items after_from (failed f)
+    at_from
+    (reads_bind_failed (from_of table_source one_source n) (subselect_after_sources n listed) behind_from
+    behind_subselect after_from f fails (λ sources. starts_subselect_after_sources n listed sources)
+    (λ sources. spelled_subselect_after_sources n listed sources)))
 
-pub subselect_at_3 : (n : ℕ) (xs y1 y2 y3 : List Token) (v1 : List Item) (v3 : List (Joined TableRef)) (f : Fault) →
-    Reads items behind_items xs (read v1 y1) → y1 ≡ (t.Keyword k.From) ∷ y2 →
-    Reads (from_of table_source one_source n) behind_from y2 (read v3 y3) →
-    Reads condition behind_condition y3 (failed f) →
+pub subselect_condition_failed : (n : ℕ) (xs after_items after_from after_sources : List Token) (listed : List Item)
+    (sources : List (Joined TableRef)) (f : Fault) →
+    Reads items behind_items xs (read listed after_items) →
+    after_items ≡ (t.Keyword k.From) ∷ after_from →
+    Reads (from_of table_source one_source n) behind_from after_from (read sources after_sources) →
+    Reads condition behind_condition after_sources (failed f) →
     Reads (subselect n) behind_subselect xs (failed f)
-unfolding subselect subselect_1 subselect_2 subselect_3 subselect_4 subselect_made
-subselect_at_3 n xs y1 y2 y3 v1 v3 f e1 e2 e3 e4 =
-    part_read items (subselect_1 n) behind_items behind_subselect xs y1 v1 (failed f) e1 (λ v1. starts_subselect_1 n v1)
-    (word_read (t.Keyword k.From) (subselect_2 n v1) behind_subselect y1 y2 (failed f) e2
-    (part_read (from_of table_source one_source n) (subselect_3 n v1) behind_from behind_subselect y2 y3 v3
-    (failed f) e3 (λ v3. starts_subselect_3 n v1 v3)
-    (reads_bind_failed condition (subselect_4 n v1 v3) behind_condition behind_subselect y3 f e4
-    (λ v4. starts_subselect_4 n v1 v3 v4) (λ v4. spelled_subselect_4 n v1 v3 v4))))
+unfolding subselect subselect_after_items subselect_after_from subselect_after_sources subselect_after_condition
+    subselect_made
+subselect_condition_failed n xs after_items after_from after_sources listed sources f reads_items at_from reads_sources
+    fails =
+    part_read items (subselect_after_items n) behind_items behind_subselect xs after_items listed (failed f) reads_items
+    (λ listed. starts_subselect_after_items n listed)
+    (word_read (t.Keyword k.From) (subselect_after_from n listed) behind_subselect after_items after_from (failed f)
+    at_from
+    (part_read (from_of table_source one_source n) (subselect_after_sources n listed) behind_from behind_subselect
+    after_from after_sources sources (failed f) reads_sources
+    (λ sources. starts_subselect_after_sources n listed sources)
+    (reads_bind_failed condition (subselect_after_condition n listed sources) behind_condition behind_subselect
+    after_sources f fails (λ filter. starts_subselect_after_condition n listed sources filter)
+    (λ filter. spelled_subselect_after_condition n listed sources filter))))
 
-pub subselect_at_4 : (n : ℕ) (xs y1 y2 y3 y4 : List Token) (v1 : List Item) (v3 : List (Joined TableRef))
-    (v4 : Option Tree) → Reads items behind_items xs (read v1 y1) → y1 ≡ (t.Keyword k.From) ∷ y2 →
-    Reads (from_of table_source one_source n) behind_from y2 (read v3 y3) →
-    Reads condition behind_condition y3 (read v4 y4) →
-    Reads (subselect n) behind_subselect xs (read (record { items = v1; from = v3; condition = v4 }) y4)
-unfolding subselect subselect_1 subselect_2 subselect_3 subselect_4 subselect_made
-subselect_at_4 n xs y1 y2 y3 y4 v1 v3 v4 e1 e2 e3 e4 =
-    part_read items (subselect_1 n) behind_items behind_subselect xs y1 v1
-    (read (record { items = v1; from = v3; condition = v4 }) y4) e1 (λ v1. starts_subselect_1 n v1)
-    (word_read (t.Keyword k.From) (subselect_2 n v1) behind_subselect y1 y2
-    (read (record { items = v1; from = v3; condition = v4 }) y4) e2
-    (part_read (from_of table_source one_source n) (subselect_3 n v1) behind_from behind_subselect y2 y3 v3
-    (read (record { items = v1; from = v3; condition = v4 }) y4) e3 (λ v3. starts_subselect_3 n v1 v3)
-    (part_read condition (subselect_4 n v1 v3) behind_condition behind_subselect y3 y4 v4
-    (read (record { items = v1; from = v3; condition = v4 }) y4) e4 (λ v4. starts_subselect_4 n v1 v3 v4)
-    (reads_gives (subselect_made v1 v3 v4) (subselect_made v1 v3 v4) behind_subselect y4 refl))))
+pub subselect_whole : (n : ℕ) (xs after_items after_from after_sources rest : List Token) (listed : List Item)
+    (sources : List (Joined TableRef)) (filter : Option Tree) →
+    Reads items behind_items xs (read listed after_items) →
+    after_items ≡ (t.Keyword k.From) ∷ after_from →
+    Reads (from_of table_source one_source n) behind_from after_from (read sources after_sources) →
+    Reads condition behind_condition after_sources (read filter rest) →
+    Reads (subselect n) behind_subselect xs (read (record { items = listed; from = sources; condition = filter }) rest)
+unfolding subselect subselect_after_items subselect_after_from subselect_after_sources subselect_after_condition
+    subselect_made
+subselect_whole n xs after_items after_from after_sources rest listed sources filter reads_items at_from reads_sources
+    reads_condition =
+    part_read items (subselect_after_items n) behind_items behind_subselect xs after_items listed
+    (read (subselect_made listed sources filter) rest) reads_items (λ listed. starts_subselect_after_items n listed)
+    (word_read (t.Keyword k.From) (subselect_after_from n listed) behind_subselect after_items after_from
+    (read (subselect_made listed sources filter) rest) at_from
+    (part_read (from_of table_source one_source n) (subselect_after_sources n listed) behind_from behind_subselect
+    after_from after_sources sources (read (subselect_made listed sources filter) rest) reads_sources
+    (λ sources. starts_subselect_after_sources n listed sources)
+    (part_read condition (subselect_after_condition n listed sources) behind_condition behind_subselect after_sources
+    rest filter (read (subselect_made listed sources filter) rest) reads_condition
+    (λ filter. starts_subselect_after_condition n listed sources filter)
+    (reads_gives (subselect_made listed sources filter) (subselect_made listed sources filter) behind_subselect
+    rest refl))))

@@ -98,372 +98,487 @@ starts_using_list : (b : Option Token → Bool) → b (Some (t.Keyword k.Using))
     Starts b (or_else [] (word k.Using from)) b
 starts_using_list b h = starts_or [] (t.Keyword k.Using) from b h
 
-update_made : (v1 : TableRef) → (v3 : List Assignment) → (v4 : List (Joined Source)) → (v5 : Option Tree) →
-    (v6 : List Item) → Update
-update_made v1 v3 v4 v5 v6 = record { target = v1; sets = v3; from = v4; condition = v5; returning = v6 }
+-- name [[AS] name] SET sets [FROM from] [WHERE expr] [RETURNING items], behind UPDATE
+update_made : (target : TableRef) → (assigned : List Assignment) → (sources : List (Joined Source)) →
+    (filter : Option Tree) → (returned : List Item) → Update
+update_made target assigned sources filter returned =
+    record { target = target; sets = assigned; from = sources; condition = filter; returning = returned }
 
-update_6 : (v1 : TableRef) → (v3 : List Assignment) → (v4 : List (Joined Source)) → (v5 : Option Tree) →
-    (v6 : List Item) → Lang Token Update
-update_6 v1 v3 v4 v5 v6 = gives (update_made v1 v3 v4 v5 v6)
+update_after_returning : (target : TableRef) → (assigned : List Assignment) → (sources : List (Joined Source)) →
+    (filter : Option Tree) → (returned : List Item) → Lang Token Update
+update_after_returning target assigned sources filter returned =
+    gives (update_made target assigned sources filter returned)
 
-spelled_update_6 : (v1 : TableRef) → (v3 : List Assignment) → (v4 : List (Joined Source)) → (v5 : Option Tree) →
-    (v6 : List Item) → Spelled (update_6 v1 v3 v4 v5 v6)
-unfolding update_6
-spelled_update_6 v1 v3 v4 v5 v6 = spelled_gives (update_made v1 v3 v4 v5 v6)
+spelled_update_after_returning : (target : TableRef) → (assigned : List Assignment) → (sources : List (Joined Source)) →
+    (filter : Option Tree) → (returned : List Item) →
+    Spelled (update_after_returning target assigned sources filter returned)
+unfolding update_after_returning
+spelled_update_after_returning target assigned sources filter returned =
+    spelled_gives (update_made target assigned sources filter returned)
 
-update_5 : (v1 : TableRef) → (v3 : List Assignment) → (v4 : List (Joined Source)) → (v5 : Option Tree) →
+update_after_condition : (target : TableRef) → (assigned : List Assignment) → (sources : List (Joined Source)) →
+    (filter : Option Tree) → Lang Token Update
+update_after_condition target assigned sources filter =
+    bind returning (update_after_returning target assigned sources filter)
+
+spelled_update_after_condition : (target : TableRef) → (assigned : List Assignment) → (sources : List (Joined Source)) →
+    (filter : Option Tree) → Spelled (update_after_condition target assigned sources filter)
+unfolding update_after_condition
+spelled_update_after_condition target assigned sources filter =
+    spelled_bind returning (update_after_returning target assigned sources filter) spelled_returning
+    (λ returned. spelled_update_after_returning target assigned sources filter returned)
+
+update_after_from : (target : TableRef) → (assigned : List Assignment) → (sources : List (Joined Source)) →
     Lang Token Update
-update_5 v1 v3 v4 v5 = bind returning (update_6 v1 v3 v4 v5)
+update_after_from target assigned sources = bind condition (update_after_condition target assigned sources)
 
-spelled_update_5 : (v1 : TableRef) → (v3 : List Assignment) → (v4 : List (Joined Source)) → (v5 : Option Tree) →
-    Spelled (update_5 v1 v3 v4 v5)
-unfolding update_5
-spelled_update_5 v1 v3 v4 v5 =
-    spelled_bind returning (update_6 v1 v3 v4 v5) spelled_returning (λ u. spelled_update_6 v1 v3 v4 v5 u)
+spelled_update_after_from : (target : TableRef) → (assigned : List Assignment) → (sources : List (Joined Source)) →
+    Spelled (update_after_from target assigned sources)
+unfolding update_after_from
+spelled_update_after_from target assigned sources =
+    spelled_bind condition (update_after_condition target assigned sources) spelled_where
+    (λ filter. spelled_update_after_condition target assigned sources filter)
 
-update_4 : (v1 : TableRef) → (v3 : List Assignment) → (v4 : List (Joined Source)) → Lang Token Update
-update_4 v1 v3 v4 = bind condition (update_5 v1 v3 v4)
+update_after_sets : (target : TableRef) → (assigned : List Assignment) → Lang Token Update
+update_after_sets target assigned = bind (or_else [] (word k.From from)) (update_after_from target assigned)
 
-spelled_update_4 : (v1 : TableRef) → (v3 : List Assignment) → (v4 : List (Joined Source)) → Spelled (update_4 v1 v3 v4)
-unfolding update_4
-spelled_update_4 v1 v3 v4 = spelled_bind condition (update_5 v1 v3 v4) spelled_where (λ u. spelled_update_5 v1 v3 v4 u)
+spelled_update_after_sets : (target : TableRef) → (assigned : List Assignment) →
+    Spelled (update_after_sets target assigned)
+unfolding update_after_sets
+spelled_update_after_sets target assigned =
+    spelled_bind (or_else [] (word k.From from)) (update_after_from target assigned)
+    (spelled_or_else [] (word k.From from)) (λ sources. spelled_update_after_from target assigned sources)
 
-update_3 : (v1 : TableRef) → (v3 : List Assignment) → Lang Token Update
-update_3 v1 v3 = bind (or_else [] (word k.From from)) (update_4 v1 v3)
+update_after_set : (target : TableRef) → Lang Token Update
+update_after_set target = bind sets (update_after_sets target)
 
-spelled_update_3 : (v1 : TableRef) → (v3 : List Assignment) → Spelled (update_3 v1 v3)
-unfolding update_3
-spelled_update_3 v1 v3 =
-    spelled_bind (or_else [] (word k.From from)) (update_4 v1 v3) (spelled_or_else [] (word k.From from))
-    (λ u. spelled_update_4 v1 v3 u)
+spelled_update_after_set : (target : TableRef) → Spelled (update_after_set target)
+unfolding update_after_set
+spelled_update_after_set target =
+    spelled_bind sets (update_after_sets target) spelled_sets (λ assigned. spelled_update_after_sets target assigned)
 
-update_2 : (v1 : TableRef) → Lang Token Update
-update_2 v1 = bind sets (update_3 v1)
+update_after_target : (target : TableRef) → Lang Token Update
+update_after_target target = token (t.Keyword k.Set) (update_after_set target)
 
-spelled_update_2 : (v1 : TableRef) → Spelled (update_2 v1)
-unfolding update_2
-spelled_update_2 v1 = spelled_bind sets (update_3 v1) spelled_sets (λ u. spelled_update_3 v1 u)
+spelled_update_after_target : (target : TableRef) → Spelled (update_after_target target)
+unfolding update_after_target
+spelled_update_after_target target =
+    spelled_token (t.Keyword k.Set) (update_after_set target) (spelled_update_after_set target)
 
-update_1 : (v1 : TableRef) → Lang Token Update
-update_1 v1 = token (t.Keyword k.Set) (update_2 v1)
+pub spelled_update : Spelled update
+unfolding update update_after_target update_after_set update_after_sets update_after_from update_after_condition
+    update_after_returning update_made
+spelled_update =
+    spelled_bind table_ref update_after_target spelled_table_ref (λ target. spelled_update_after_target target)
 
-spelled_update_1 : (v1 : TableRef) → Spelled (update_1 v1)
-unfolding update_1
-spelled_update_1 v1 = spelled_token (t.Keyword k.Set) (update_2 v1) (spelled_update_2 v1)
+starts_update_after_target : (target : TableRef) → Starts behind_table (update_after_target target) behind_statement
+unfolding update_after_target update_after_set update_after_sets update_after_from update_after_condition
+    update_after_returning update_made
+starts_update_after_target target =
+    starts_token behind_table behind_statement (t.Keyword k.Set) (update_after_set target) set_behind_table
 
-pub spelled_update : Spelled (update)
-unfolding update update_1 update_2 update_3 update_4 update_5 update_6 update_made
-spelled_update = spelled_bind table_ref (update_1) spelled_table_ref (λ u. spelled_update_1 u)
+starts_update_after_sets : (target : TableRef) → (assigned : List Assignment) →
+    Starts behind_sets (update_after_sets target assigned) behind_statement
+unfolding update_after_target update_after_set update_after_sets update_after_from update_after_condition
+    update_after_returning update_made
+starts_update_after_sets target assigned =
+    starts_bind behind_sets behind_sets behind_statement (or_else [] (word k.From from))
+    (update_after_from target assigned) (starts_from_list behind_sets from_behind_sets)
+    (λ sources. starts_bind behind_sets behind_sets behind_statement condition
+    (update_after_condition target assigned sources) (starts_where behind_sets where_behind_sets)
+    (λ filter. starts_bind behind_sets behind_sets behind_statement returning
+    (update_after_returning target assigned sources filter) (starts_returning behind_sets returning_behind_sets)
+    (λ returned. starts_gives behind_sets behind_statement (update_made target assigned sources filter returned)
+    end_behind_sets)))
 
-starts_update_1 : (v1 : TableRef) → Starts behind_table (update_1 v1) behind_statement
-unfolding update_1 update_2 update_3 update_4 update_5 update_6 update_made
-starts_update_1 v1 = starts_token behind_table behind_statement (t.Keyword k.Set) (update_2 v1) set_behind_table
-
-starts_update_3 : (v1 : TableRef) → (v3 : List Assignment) → Starts behind_sets (update_3 v1 v3) behind_statement
-unfolding update_1 update_2 update_3 update_4 update_5 update_6 update_made
-starts_update_3 v1 v3 =
-    starts_bind behind_sets behind_sets behind_statement (or_else [] (word k.From from)) (update_4 v1 v3)
-    (starts_from_list behind_sets from_behind_sets)
-    (λ v4. starts_bind behind_sets behind_sets behind_statement condition (update_5 v1 v3 v4)
-    (starts_where behind_sets where_behind_sets) (λ v5. starts_bind behind_sets behind_sets behind_statement returning
-    (update_6 v1 v3 v4 v5) (starts_returning behind_sets returning_behind_sets)
-    (λ v6. starts_gives behind_sets behind_statement (update_made v1 v3 v4 v5 v6) (end_behind_sets))))
-
-starts_update_4 : (v1 : TableRef) → (v3 : List Assignment) → (v4 : List (Joined Source)) →
-    Starts behind_from_list (update_4 v1 v3 v4) behind_statement
-unfolding update_1 update_2 update_3 update_4 update_5 update_6 update_made
-starts_update_4 v1 v3 v4 =
-    starts_bind behind_from_list behind_from_list behind_statement condition (update_5 v1 v3 v4)
-    (starts_where behind_from_list where_behind_from_list)
-    (λ v5. starts_bind behind_from_list behind_from_list behind_statement returning (update_6 v1 v3 v4 v5)
+starts_update_after_from : (target : TableRef) → (assigned : List Assignment) → (sources : List (Joined Source)) →
+    Starts behind_from_list (update_after_from target assigned sources) behind_statement
+unfolding update_after_target update_after_set update_after_sets update_after_from update_after_condition
+    update_after_returning update_made
+starts_update_after_from target assigned sources =
+    starts_bind behind_from_list behind_from_list behind_statement condition
+    (update_after_condition target assigned sources) (starts_where behind_from_list where_behind_from_list)
+    (λ filter. starts_bind behind_from_list behind_from_list behind_statement returning
+    (update_after_returning target assigned sources filter)
     (starts_returning behind_from_list returning_behind_from_list)
-    (λ v6. starts_gives behind_from_list behind_statement (update_made v1 v3 v4 v5 v6) (end_behind_from_list)))
+    (λ returned. starts_gives behind_from_list behind_statement (update_made target assigned sources filter returned)
+    end_behind_from_list))
 
-starts_update_5 : (v1 : TableRef) → (v3 : List Assignment) → (v4 : List (Joined Source)) → (v5 : Option Tree) →
-    Starts behind_condition (update_5 v1 v3 v4 v5) behind_statement
-unfolding update_1 update_2 update_3 update_4 update_5 update_6 update_made
-starts_update_5 v1 v3 v4 v5 =
-    starts_bind behind_condition behind_condition behind_statement returning (update_6 v1 v3 v4 v5)
+starts_update_after_condition : (target : TableRef) → (assigned : List Assignment) → (sources : List (Joined Source)) →
+    (filter : Option Tree) →
+    Starts behind_condition (update_after_condition target assigned sources filter) behind_statement
+unfolding update_after_target update_after_set update_after_sets update_after_from update_after_condition
+    update_after_returning update_made
+starts_update_after_condition target assigned sources filter =
+    starts_bind behind_condition behind_condition behind_statement returning
+    (update_after_returning target assigned sources filter)
     (starts_returning behind_condition returning_behind_condition)
-    (λ v6. starts_gives behind_condition behind_statement (update_made v1 v3 v4 v5 v6) (end_behind_condition))
+    (λ returned. starts_gives behind_condition behind_statement (update_made target assigned sources filter returned)
+    end_behind_condition)
 
-starts_update_6 : (v1 : TableRef) → (v3 : List Assignment) → (v4 : List (Joined Source)) → (v5 : Option Tree) →
-    (v6 : List Item) → Starts behind_returning (update_6 v1 v3 v4 v5 v6) behind_statement
-unfolding update_1 update_2 update_3 update_4 update_5 update_6 update_made
-starts_update_6 v1 v3 v4 v5 v6 =
-    starts_gives behind_returning behind_statement (update_made v1 v3 v4 v5 v6) (end_behind_returning)
+starts_update_after_returning : (target : TableRef) → (assigned : List Assignment) → (sources : List (Joined Source)) →
+    (filter : Option Tree) → (returned : List Item) →
+    Starts behind_returning (update_after_returning target assigned sources filter returned) behind_statement
+unfolding update_after_target update_after_set update_after_sets update_after_from update_after_condition
+    update_after_returning update_made
+starts_update_after_returning target assigned sources filter returned =
+    starts_gives behind_returning behind_statement (update_made target assigned sources filter returned)
+    end_behind_returning
 
-pub update_at_0 : (xs : List Token) (f : Fault) → Reads table_ref behind_table xs (failed f) →
-    Reads (update) behind_statement xs (failed f)
-unfolding update update_1 update_2 update_3 update_4 update_5 update_6 update_made
-update_at_0 xs f e1 =
-    reads_bind_failed table_ref (update_1) behind_table behind_statement xs f e1 (λ v1. starts_update_1 v1)
-    (λ v1. spelled_update_1 v1)
+pub update_target_failed : (xs : List Token) (f : Fault) → Reads table_ref behind_table xs (failed f) →
+    Reads update behind_statement xs (failed f)
+unfolding update update_after_target update_after_set update_after_sets update_after_from update_after_condition
+    update_after_returning update_made
+update_target_failed xs f fails =
+    reads_bind_failed table_ref update_after_target behind_table behind_statement xs f fails
+    (λ target. starts_update_after_target target) (λ target. spelled_update_after_target target)
 
-pub update_at_1 : (xs y1 : List Token) (v1 : TableRef) (l : ℕ) → Reads table_ref behind_table xs (read v1 y1) →
-    Misses (t.Keyword k.Set) y1 →
-    l ≡ length y1 →
-    Reads (update) behind_statement xs (failed (Syntax l))
-unfolding update update_1 update_2 update_3 update_4 update_5 update_6 update_made
-update_at_1 xs y1 v1 l e1 e2 q =
-    part_read table_ref (update_1) behind_table behind_statement xs y1 v1 (failed (Syntax l)) e1
-    (λ v1. starts_update_1 v1)
-    (word_missed (t.Keyword k.Set) (update_2 v1) behind_statement y1 l e2 q (spelled_update_2 v1))
+pub update_no_set : (xs after_target : List Token) (target : TableRef) (l : ℕ) →
+    Reads table_ref behind_table xs (read target after_target) →
+    Misses (t.Keyword k.Set) after_target →
+    l ≡ length after_target →
+    Reads update behind_statement xs (failed (Syntax l))
+unfolding update update_after_target update_after_set update_after_sets update_after_from update_after_condition
+    update_after_returning update_made
+update_no_set xs after_target target l reads_target miss q =
+    part_read table_ref update_after_target behind_table behind_statement xs after_target target (failed (Syntax l))
+    reads_target (λ target. starts_update_after_target target)
+    (word_missed (t.Keyword k.Set) (update_after_set target) behind_statement after_target l miss q
+    (spelled_update_after_set target))
 
-pub update_at_2 : (xs y1 y2 : List Token) (v1 : TableRef) (f : Fault) → Reads table_ref behind_table xs (read v1 y1) →
-    y1 ≡ (t.Keyword k.Set) ∷ y2 →
-    Reads sets behind_sets y2 (failed f) →
-    Reads (update) behind_statement xs (failed f)
-unfolding update update_1 update_2 update_3 update_4 update_5 update_6 update_made
-update_at_2 xs y1 y2 v1 f e1 e2 e3 =
-    part_read table_ref (update_1) behind_table behind_statement xs y1 v1 (failed f) e1 (λ v1. starts_update_1 v1)
-    (word_read (t.Keyword k.Set) (update_2 v1) behind_statement y1 y2 (failed f) e2
-    (reads_bind_failed sets (update_3 v1) behind_sets behind_statement y2 f e3 (λ v3. starts_update_3 v1 v3)
-    (λ v3. spelled_update_3 v1 v3)))
+pub update_sets_failed : (xs after_target after_set : List Token) (target : TableRef) (f : Fault) →
+    Reads table_ref behind_table xs (read target after_target) →
+    after_target ≡ (t.Keyword k.Set) ∷ after_set →
+    Reads sets behind_sets after_set (failed f) →
+    Reads update behind_statement xs (failed f)
+unfolding update update_after_target update_after_set update_after_sets update_after_from update_after_condition
+    update_after_returning update_made
+update_sets_failed xs after_target after_set target f reads_target at_set fails =
+    part_read table_ref update_after_target behind_table behind_statement xs after_target target (failed f) reads_target
+    (λ target. starts_update_after_target target)
+    (word_read (t.Keyword k.Set) (update_after_set target) behind_statement after_target after_set (failed f) at_set
+    (reads_bind_failed sets (update_after_sets target) behind_sets behind_statement after_set f fails
+    (λ assigned. starts_update_after_sets target assigned) (λ assigned. spelled_update_after_sets target assigned)))
 
-pub update_at_3 : (xs y1 y2 y3 : List Token) (v1 : TableRef) (v3 : List Assignment) (f : Fault) →
-    Reads table_ref behind_table xs (read v1 y1) →
-    y1 ≡ (t.Keyword k.Set) ∷ y2 →
-    Reads sets behind_sets y2 (read v3 y3) →
-    Reads (or_else [] (word k.From from)) behind_from_list y3 (failed f) →
-    Reads (update) behind_statement xs (failed f)
-unfolding update update_1 update_2 update_3 update_4 update_5 update_6 update_made
-update_at_3 xs y1 y2 y3 v1 v3 f e1 e2 e3 e4 =
-    part_read table_ref (update_1) behind_table behind_statement xs y1 v1 (failed f) e1 (λ v1. starts_update_1 v1)
-    (word_read (t.Keyword k.Set) (update_2 v1) behind_statement y1 y2 (failed f) e2
-    (part_read sets (update_3 v1) behind_sets behind_statement y2 y3 v3 (failed f) e3 (λ v3. starts_update_3 v1 v3)
-    (reads_bind_failed (or_else [] (word k.From from)) (update_4 v1 v3) behind_from_list behind_statement y3 f e4
-    (λ v4. starts_update_4 v1 v3 v4) (λ v4. spelled_update_4 v1 v3 v4))))
+pub update_from_failed : (xs after_target after_set after_sets : List Token) (target : TableRef)
+    (assigned : List Assignment) (f : Fault) →
+    Reads table_ref behind_table xs (read target after_target) →
+    after_target ≡ (t.Keyword k.Set) ∷ after_set →
+    Reads sets behind_sets after_set (read assigned after_sets) →
+    Reads (or_else [] (word k.From from)) behind_from_list after_sets (failed f) →
+    Reads update behind_statement xs (failed f)
+unfolding update update_after_target update_after_set update_after_sets update_after_from update_after_condition
+    update_after_returning update_made
+update_from_failed xs after_target after_set after_sets target assigned f reads_target at_set reads_sets fails =
+    part_read table_ref update_after_target behind_table behind_statement xs after_target target (failed f) reads_target
+    (λ target. starts_update_after_target target)
+    (word_read (t.Keyword k.Set) (update_after_set target) behind_statement after_target after_set (failed f) at_set
+    (part_read sets (update_after_sets target) behind_sets behind_statement after_set after_sets assigned (failed f)
+    reads_sets (λ assigned. starts_update_after_sets target assigned)
+    (reads_bind_failed (or_else [] (word k.From from)) (update_after_from target assigned) behind_from_list
+    behind_statement after_sets f fails (λ sources. starts_update_after_from target assigned sources)
+    (λ sources. spelled_update_after_from target assigned sources))))
 
-pub update_at_4 : (xs y1 y2 y3 y4 : List Token) (v1 : TableRef) (v3 : List Assignment) (v4 : List (Joined Source))
-    (f : Fault) → Reads table_ref behind_table xs (read v1 y1) →
-    y1 ≡ (t.Keyword k.Set) ∷ y2 →
-    Reads sets behind_sets y2 (read v3 y3) →
-    Reads (or_else [] (word k.From from)) behind_from_list y3 (read v4 y4) →
-    Reads condition behind_condition y4 (failed f) →
-    Reads (update) behind_statement xs (failed f)
-unfolding update update_1 update_2 update_3 update_4 update_5 update_6 update_made
-update_at_4 xs y1 y2 y3 y4 v1 v3 v4 f e1 e2 e3 e4 e5 =
-    part_read table_ref (update_1) behind_table behind_statement xs y1 v1 (failed f) e1 (λ v1. starts_update_1 v1)
-    (word_read (t.Keyword k.Set) (update_2 v1) behind_statement y1 y2 (failed f) e2
-    (part_read sets (update_3 v1) behind_sets behind_statement y2 y3 v3 (failed f) e3 (λ v3. starts_update_3 v1 v3)
-    (part_read (or_else [] (word k.From from)) (update_4 v1 v3) behind_from_list behind_statement y3 y4 v4 (failed f) e4
-    (λ v4. starts_update_4 v1 v3 v4)
-    (reads_bind_failed condition (update_5 v1 v3 v4) behind_condition behind_statement y4 f e5
-    (λ v5. starts_update_5 v1 v3 v4 v5) (λ v5. spelled_update_5 v1 v3 v4 v5)))))
+pub update_condition_failed : (xs after_target after_set after_sets after_from : List Token) (target : TableRef)
+    (assigned : List Assignment) (sources : List (Joined Source)) (f : Fault) →
+    Reads table_ref behind_table xs (read target after_target) →
+    after_target ≡ (t.Keyword k.Set) ∷ after_set →
+    Reads sets behind_sets after_set (read assigned after_sets) →
+    Reads (or_else [] (word k.From from)) behind_from_list after_sets (read sources after_from) →
+    Reads condition behind_condition after_from (failed f) →
+    Reads update behind_statement xs (failed f)
+unfolding update update_after_target update_after_set update_after_sets update_after_from update_after_condition
+    update_after_returning update_made
+update_condition_failed xs after_target after_set after_sets after_from target assigned sources f reads_target at_set
+    reads_sets reads_from fails =
+    part_read table_ref update_after_target behind_table behind_statement xs after_target target (failed f) reads_target
+    (λ target. starts_update_after_target target)
+    (word_read (t.Keyword k.Set) (update_after_set target) behind_statement after_target after_set (failed f) at_set
+    (part_read sets (update_after_sets target) behind_sets behind_statement after_set after_sets assigned (failed f)
+    reads_sets (λ assigned. starts_update_after_sets target assigned)
+    (part_read (or_else [] (word k.From from)) (update_after_from target assigned) behind_from_list behind_statement
+    after_sets after_from sources (failed f) reads_from (λ sources. starts_update_after_from target assigned sources)
+    (reads_bind_failed condition (update_after_condition target assigned sources) behind_condition behind_statement
+    after_from f fails (λ filter. starts_update_after_condition target assigned sources filter)
+    (λ filter. spelled_update_after_condition target assigned sources filter)))))
 
-pub update_at_5 : (xs y1 y2 y3 y4 y5 : List Token) (v1 : TableRef) (v3 : List Assignment) (v4 : List (Joined Source))
-    (v5 : Option Tree) (f : Fault) → Reads table_ref behind_table xs (read v1 y1) →
-    y1 ≡ (t.Keyword k.Set) ∷ y2 →
-    Reads sets behind_sets y2 (read v3 y3) →
-    Reads (or_else [] (word k.From from)) behind_from_list y3 (read v4 y4) →
-    Reads condition behind_condition y4 (read v5 y5) →
-    Reads returning behind_returning y5 (failed f) →
-    Reads (update) behind_statement xs (failed f)
-unfolding update update_1 update_2 update_3 update_4 update_5 update_6 update_made
-update_at_5 xs y1 y2 y3 y4 y5 v1 v3 v4 v5 f e1 e2 e3 e4 e5 e6 =
-    part_read table_ref (update_1) behind_table behind_statement xs y1 v1 (failed f) e1 (λ v1. starts_update_1 v1)
-    (word_read (t.Keyword k.Set) (update_2 v1) behind_statement y1 y2 (failed f) e2
-    (part_read sets (update_3 v1) behind_sets behind_statement y2 y3 v3 (failed f) e3 (λ v3. starts_update_3 v1 v3)
-    (part_read (or_else [] (word k.From from)) (update_4 v1 v3) behind_from_list behind_statement y3 y4 v4 (failed f) e4
-    (λ v4. starts_update_4 v1 v3 v4)
-    (part_read condition (update_5 v1 v3 v4) behind_condition behind_statement y4 y5 v5 (failed f) e5
-    (λ v5. starts_update_5 v1 v3 v4 v5)
-    (reads_bind_failed returning (update_6 v1 v3 v4 v5) behind_returning behind_statement y5 f e6
-    (λ v6. starts_update_6 v1 v3 v4 v5 v6) (λ v6. spelled_update_6 v1 v3 v4 v5 v6))))))
+pub update_returning_failed : (xs after_target after_set after_sets after_from after_condition : List Token)
+    (target : TableRef) (assigned : List Assignment) (sources : List (Joined Source)) (filter : Option Tree)
+    (f : Fault) →
+    Reads table_ref behind_table xs (read target after_target) →
+    after_target ≡ (t.Keyword k.Set) ∷ after_set →
+    Reads sets behind_sets after_set (read assigned after_sets) →
+    Reads (or_else [] (word k.From from)) behind_from_list after_sets (read sources after_from) →
+    Reads condition behind_condition after_from (read filter after_condition) →
+    Reads returning behind_returning after_condition (failed f) →
+    Reads update behind_statement xs (failed f)
+unfolding update update_after_target update_after_set update_after_sets update_after_from update_after_condition
+    update_after_returning update_made
+update_returning_failed xs after_target after_set after_sets after_from after_condition target assigned sources filter f
+    reads_target at_set reads_sets reads_from reads_condition fails =
+    part_read table_ref update_after_target behind_table behind_statement xs after_target target (failed f) reads_target
+    (λ target. starts_update_after_target target)
+    (word_read (t.Keyword k.Set) (update_after_set target) behind_statement after_target after_set (failed f) at_set
+    (part_read sets (update_after_sets target) behind_sets behind_statement after_set after_sets assigned (failed f)
+    reads_sets (λ assigned. starts_update_after_sets target assigned)
+    (part_read (or_else [] (word k.From from)) (update_after_from target assigned) behind_from_list behind_statement
+    after_sets after_from sources (failed f) reads_from (λ sources. starts_update_after_from target assigned sources)
+    (part_read condition (update_after_condition target assigned sources) behind_condition behind_statement after_from
+    after_condition filter (failed f) reads_condition
+    (λ filter. starts_update_after_condition target assigned sources filter)
+    (reads_bind_failed returning (update_after_returning target assigned sources filter) behind_returning
+    behind_statement after_condition f fails
+    (λ returned. starts_update_after_returning target assigned sources filter returned)
+    (λ returned. spelled_update_after_returning target assigned sources filter returned))))))
 
-pub update_at_6 : (xs y1 y2 y3 y4 y5 y6 : List Token) (v1 : TableRef) (v3 : List Assignment) (v4 : List (Joined Source))
-    (v5 : Option Tree) (v6 : List Item) → Reads table_ref behind_table xs (read v1 y1) →
-    y1 ≡ (t.Keyword k.Set) ∷ y2 →
-    Reads sets behind_sets y2 (read v3 y3) →
-    Reads (or_else [] (word k.From from)) behind_from_list y3 (read v4 y4) →
-    Reads condition behind_condition y4 (read v5 y5) →
-    Reads returning behind_returning y5 (read v6 y6) →
-    Reads (update) behind_statement xs (read (record {
+pub update_whole : (xs after_target after_set after_sets after_from after_condition rest : List Token)
+    (target : TableRef) (assigned : List Assignment) (sources : List (Joined Source)) (filter : Option Tree)
+    (returned : List Item) →
+    Reads table_ref behind_table xs (read target after_target) →
+    after_target ≡ (t.Keyword k.Set) ∷ after_set →
+    Reads sets behind_sets after_set (read assigned after_sets) →
+    Reads (or_else [] (word k.From from)) behind_from_list after_sets (read sources after_from) →
+    Reads condition behind_condition after_from (read filter after_condition) →
+    Reads returning behind_returning after_condition (read returned rest) →
+    Reads update behind_statement xs (read (record {
       target =
-          v1;
-      sets = v3;
-      from = v4;
-      condition = v5;
-      returning = v6;
-    }) y6)
-unfolding update update_1 update_2 update_3 update_4 update_5 update_6 update_made
-update_at_6 xs y1 y2 y3 y4 y5 y6 v1 v3 v4 v5 v6 e1 e2 e3 e4 e5 e6 =
-    part_read table_ref (update_1) behind_table behind_statement xs y1 v1
-    (read (record { target = v1; sets = v3; from = v4; condition = v5; returning = v6 }) y6) e1
-    (λ v1. starts_update_1 v1)
-    (word_read (t.Keyword k.Set) (update_2 v1) behind_statement y1 y2
-    (read (record { target = v1; sets = v3; from = v4; condition = v5; returning = v6 }) y6) e2
-    (part_read sets (update_3 v1) behind_sets behind_statement y2 y3 v3
-    (read (record { target = v1; sets = v3; from = v4; condition = v5; returning = v6 }) y6) e3
-    (λ v3. starts_update_3 v1 v3)
-    (part_read (or_else [] (word k.From from)) (update_4 v1 v3) behind_from_list behind_statement y3 y4 v4
-    (read (record { target = v1; sets = v3; from = v4; condition = v5; returning = v6 }) y6) e4
-    (λ v4. starts_update_4 v1 v3 v4)
-    (part_read condition (update_5 v1 v3 v4) behind_condition behind_statement y4 y5 v5
-    (read (record { target = v1; sets = v3; from = v4; condition = v5; returning = v6 }) y6) e5
-    (λ v5. starts_update_5 v1 v3 v4 v5)
-    (part_read returning (update_6 v1 v3 v4 v5) behind_returning behind_statement y5 y6 v6
-    (read (record { target = v1; sets = v3; from = v4; condition = v5; returning = v6 }) y6) e6
-    (λ v6. starts_update_6 v1 v3 v4 v5 v6)
-    (reads_gives (update_made v1 v3 v4 v5 v6) (update_made v1 v3 v4 v5 v6) behind_statement y6 refl))))))
+          target;
+      sets = assigned;
+      from = sources;
+      condition = filter;
+      returning = returned;
+    }) rest)
+unfolding update update_after_target update_after_set update_after_sets update_after_from update_after_condition
+    update_after_returning update_made
+update_whole xs after_target after_set after_sets after_from after_condition rest target assigned sources filter
+    returned reads_target at_set reads_sets reads_from reads_condition reads_returning =
+    part_read table_ref update_after_target behind_table behind_statement xs after_target target
+    (read (update_made target assigned sources filter returned) rest) reads_target
+    (λ target. starts_update_after_target target)
+    (word_read (t.Keyword k.Set) (update_after_set target) behind_statement after_target after_set
+    (read (update_made target assigned sources filter returned) rest) at_set
+    (part_read sets (update_after_sets target) behind_sets behind_statement after_set after_sets assigned
+    (read (update_made target assigned sources filter returned) rest) reads_sets
+    (λ assigned. starts_update_after_sets target assigned)
+    (part_read (or_else [] (word k.From from)) (update_after_from target assigned) behind_from_list behind_statement
+    after_sets after_from sources (read (update_made target assigned sources filter returned) rest) reads_from
+    (λ sources. starts_update_after_from target assigned sources)
+    (part_read condition (update_after_condition target assigned sources) behind_condition behind_statement after_from
+    after_condition filter (read (update_made target assigned sources filter returned) rest) reads_condition
+    (λ filter. starts_update_after_condition target assigned sources filter)
+    (part_read returning (update_after_returning target assigned sources filter) behind_returning behind_statement
+    after_condition rest returned (read (update_made target assigned sources filter returned) rest) reads_returning
+    (λ returned. starts_update_after_returning target assigned sources filter returned)
+    (reads_gives (update_made target assigned sources filter returned)
+    (update_made target assigned sources filter returned) behind_statement rest refl))))))
 
-delete_made : (v2 : TableRef) → (v3 : List (Joined Source)) → (v4 : Option Tree) → (v5 : List Item) → Delete
-delete_made v2 v3 v4 v5 = record { target = v2; using = v3; condition = v4; returning = v5 }
+-- FROM name [[AS] name] [USING from] [WHERE expr] [RETURNING items], behind DELETE
+delete_made : (target : TableRef) → (sources : List (Joined Source)) → (filter : Option Tree) → (returned : List Item) →
+    Delete
+delete_made target sources filter returned =
+    record { target = target; using = sources; condition = filter; returning = returned }
 
-delete_5 : (v2 : TableRef) → (v3 : List (Joined Source)) → (v4 : Option Tree) → (v5 : List Item) → Lang Token Delete
-delete_5 v2 v3 v4 v5 = gives (delete_made v2 v3 v4 v5)
+delete_after_returning : (target : TableRef) → (sources : List (Joined Source)) → (filter : Option Tree) →
+    (returned : List Item) → Lang Token Delete
+delete_after_returning target sources filter returned = gives (delete_made target sources filter returned)
 
-spelled_delete_5 : (v2 : TableRef) → (v3 : List (Joined Source)) → (v4 : Option Tree) → (v5 : List Item) →
-    Spelled (delete_5 v2 v3 v4 v5)
-unfolding delete_5
-spelled_delete_5 v2 v3 v4 v5 = spelled_gives (delete_made v2 v3 v4 v5)
+spelled_delete_after_returning : (target : TableRef) → (sources : List (Joined Source)) → (filter : Option Tree) →
+    (returned : List Item) → Spelled (delete_after_returning target sources filter returned)
+unfolding delete_after_returning
+spelled_delete_after_returning target sources filter returned =
+    spelled_gives (delete_made target sources filter returned)
 
-delete_4 : (v2 : TableRef) → (v3 : List (Joined Source)) → (v4 : Option Tree) → Lang Token Delete
-delete_4 v2 v3 v4 = bind returning (delete_5 v2 v3 v4)
+delete_after_condition : (target : TableRef) → (sources : List (Joined Source)) → (filter : Option Tree) →
+    Lang Token Delete
+delete_after_condition target sources filter = bind returning (delete_after_returning target sources filter)
 
-spelled_delete_4 : (v2 : TableRef) → (v3 : List (Joined Source)) → (v4 : Option Tree) → Spelled (delete_4 v2 v3 v4)
-unfolding delete_4
-spelled_delete_4 v2 v3 v4 =
-    spelled_bind returning (delete_5 v2 v3 v4) spelled_returning (λ u. spelled_delete_5 v2 v3 v4 u)
+spelled_delete_after_condition : (target : TableRef) → (sources : List (Joined Source)) → (filter : Option Tree) →
+    Spelled (delete_after_condition target sources filter)
+unfolding delete_after_condition
+spelled_delete_after_condition target sources filter =
+    spelled_bind returning (delete_after_returning target sources filter) spelled_returning
+    (λ returned. spelled_delete_after_returning target sources filter returned)
 
-delete_3 : (v2 : TableRef) → (v3 : List (Joined Source)) → Lang Token Delete
-delete_3 v2 v3 = bind condition (delete_4 v2 v3)
+delete_after_using : (target : TableRef) → (sources : List (Joined Source)) → Lang Token Delete
+delete_after_using target sources = bind condition (delete_after_condition target sources)
 
-spelled_delete_3 : (v2 : TableRef) → (v3 : List (Joined Source)) → Spelled (delete_3 v2 v3)
-unfolding delete_3
-spelled_delete_3 v2 v3 = spelled_bind condition (delete_4 v2 v3) spelled_where (λ u. spelled_delete_4 v2 v3 u)
+spelled_delete_after_using : (target : TableRef) → (sources : List (Joined Source)) →
+    Spelled (delete_after_using target sources)
+unfolding delete_after_using
+spelled_delete_after_using target sources =
+    spelled_bind condition (delete_after_condition target sources) spelled_where
+    (λ filter. spelled_delete_after_condition target sources filter)
 
-delete_2 : (v2 : TableRef) → Lang Token Delete
-delete_2 v2 = bind (or_else [] (word k.Using from)) (delete_3 v2)
+delete_after_target : (target : TableRef) → Lang Token Delete
+delete_after_target target = bind (or_else [] (word k.Using from)) (delete_after_using target)
 
-spelled_delete_2 : (v2 : TableRef) → Spelled (delete_2 v2)
-unfolding delete_2
-spelled_delete_2 v2 =
-    spelled_bind (or_else [] (word k.Using from)) (delete_3 v2) (spelled_or_else [] (word k.Using from))
-    (λ u. spelled_delete_3 v2 u)
+spelled_delete_after_target : (target : TableRef) → Spelled (delete_after_target target)
+unfolding delete_after_target
+spelled_delete_after_target target =
+    spelled_bind (or_else [] (word k.Using from)) (delete_after_using target) (spelled_or_else [] (word k.Using from))
+    (λ sources. spelled_delete_after_using target sources)
 
-delete_1 : Lang Token Delete
-delete_1 = bind table_ref (delete_2)
+delete_after_from : Lang Token Delete
+delete_after_from = bind table_ref delete_after_target
 
-spelled_delete_1 : Spelled (delete_1)
-unfolding delete_1
-spelled_delete_1 = spelled_bind table_ref (delete_2) spelled_table_ref (λ u. spelled_delete_2 u)
+spelled_delete_after_from : Spelled delete_after_from
+unfolding delete_after_from
+spelled_delete_after_from =
+    spelled_bind table_ref delete_after_target spelled_table_ref (λ target. spelled_delete_after_target target)
 
-pub spelled_delete : Spelled (delete)
-unfolding delete delete_1 delete_2 delete_3 delete_4 delete_5 delete_made
-spelled_delete = spelled_token (t.Keyword k.From) (delete_1) (spelled_delete_1)
+pub spelled_delete : Spelled delete
+unfolding delete delete_after_from delete_after_target delete_after_using delete_after_condition delete_after_returning
+    delete_made
+spelled_delete = spelled_token (t.Keyword k.From) delete_after_from spelled_delete_after_from
 
-starts_delete_2 : (v2 : TableRef) → Starts behind_table (delete_2 v2) behind_statement
-unfolding delete_1 delete_2 delete_3 delete_4 delete_5 delete_made
-starts_delete_2 v2 =
-    starts_bind behind_table behind_table behind_statement (or_else [] (word k.Using from)) (delete_3 v2)
+starts_delete_after_target : (target : TableRef) → Starts behind_table (delete_after_target target) behind_statement
+unfolding delete_after_from delete_after_target delete_after_using delete_after_condition delete_after_returning
+    delete_made
+starts_delete_after_target target =
+    starts_bind behind_table behind_table behind_statement (or_else [] (word k.Using from)) (delete_after_using target)
     (starts_using_list behind_table using_behind_table)
-    (λ v3. starts_bind behind_table behind_table behind_statement condition (delete_4 v2 v3)
+    (λ sources. starts_bind behind_table behind_table behind_statement condition (delete_after_condition target sources)
     (starts_where behind_table where_behind_table)
-    (λ v4. starts_bind behind_table behind_table behind_statement returning (delete_5 v2 v3 v4)
-    (starts_returning behind_table returning_behind_table) (λ v5. starts_gives behind_table behind_statement
-    (delete_made v2 v3 v4 v5) (end_behind_table))))
+    (λ filter. starts_bind behind_table behind_table behind_statement returning
+    (delete_after_returning target sources filter) (starts_returning behind_table returning_behind_table)
+    (λ returned. starts_gives behind_table behind_statement (delete_made target sources filter returned)
+    end_behind_table)))
 
-starts_delete_3 : (v2 : TableRef) → (v3 : List (Joined Source)) →
-    Starts behind_using_list (delete_3 v2 v3) behind_statement
-unfolding delete_1 delete_2 delete_3 delete_4 delete_5 delete_made
-starts_delete_3 v2 v3 =
-    starts_bind behind_using_list behind_using_list behind_statement condition (delete_4 v2 v3)
+starts_delete_after_using : (target : TableRef) → (sources : List (Joined Source)) →
+    Starts behind_using_list (delete_after_using target sources) behind_statement
+unfolding delete_after_from delete_after_target delete_after_using delete_after_condition delete_after_returning
+    delete_made
+starts_delete_after_using target sources =
+    starts_bind behind_using_list behind_using_list behind_statement condition (delete_after_condition target sources)
     (starts_where behind_using_list where_behind_using_list)
-    (λ v4. starts_bind behind_using_list behind_using_list behind_statement returning (delete_5 v2 v3 v4)
-    (starts_returning behind_using_list returning_behind_using_list)
-    (λ v5. starts_gives behind_using_list behind_statement (delete_made v2 v3 v4 v5) (end_behind_using_list)))
+    (λ filter. starts_bind behind_using_list behind_using_list behind_statement returning
+    (delete_after_returning target sources filter) (starts_returning behind_using_list returning_behind_using_list)
+    (λ returned. starts_gives behind_using_list behind_statement (delete_made target sources filter returned)
+    end_behind_using_list))
 
-starts_delete_4 : (v2 : TableRef) → (v3 : List (Joined Source)) → (v4 : Option Tree) →
-    Starts behind_condition (delete_4 v2 v3 v4) behind_statement
-unfolding delete_1 delete_2 delete_3 delete_4 delete_5 delete_made
-starts_delete_4 v2 v3 v4 =
-    starts_bind behind_condition behind_condition behind_statement returning (delete_5 v2 v3 v4)
-    (starts_returning behind_condition returning_behind_condition)
-    (λ v5. starts_gives behind_condition behind_statement (delete_made v2 v3 v4 v5) (end_behind_condition))
+starts_delete_after_condition : (target : TableRef) → (sources : List (Joined Source)) → (filter : Option Tree) →
+    Starts behind_condition (delete_after_condition target sources filter) behind_statement
+unfolding delete_after_from delete_after_target delete_after_using delete_after_condition delete_after_returning
+    delete_made
+starts_delete_after_condition target sources filter =
+    starts_bind behind_condition behind_condition behind_statement returning
+    (delete_after_returning target sources filter) (starts_returning behind_condition returning_behind_condition)
+    (λ returned. starts_gives behind_condition behind_statement (delete_made target sources filter returned)
+    end_behind_condition)
 
-starts_delete_5 : (v2 : TableRef) → (v3 : List (Joined Source)) → (v4 : Option Tree) → (v5 : List Item) →
-    Starts behind_returning (delete_5 v2 v3 v4 v5) behind_statement
-unfolding delete_1 delete_2 delete_3 delete_4 delete_5 delete_made
-starts_delete_5 v2 v3 v4 v5 =
-    starts_gives behind_returning behind_statement (delete_made v2 v3 v4 v5) (end_behind_returning)
+starts_delete_after_returning : (target : TableRef) → (sources : List (Joined Source)) → (filter : Option Tree) →
+    (returned : List Item) →
+    Starts behind_returning (delete_after_returning target sources filter returned) behind_statement
+unfolding delete_after_from delete_after_target delete_after_using delete_after_condition delete_after_returning
+    delete_made
+starts_delete_after_returning target sources filter returned =
+    starts_gives behind_returning behind_statement (delete_made target sources filter returned) end_behind_returning
 
-pub delete_at_0 : (xs : List Token) (l : ℕ) → Misses (t.Keyword k.From) xs →
+pub delete_no_from : (xs : List Token) (l : ℕ) → Misses (t.Keyword k.From) xs →
     l ≡ length xs →
-    Reads (delete) behind_statement xs (failed (Syntax l))
-unfolding delete delete_1 delete_2 delete_3 delete_4 delete_5 delete_made
-delete_at_0 xs l e1 q = word_missed (t.Keyword k.From) (delete_1) behind_statement xs l e1 q (spelled_delete_1)
+    Reads delete behind_statement xs (failed (Syntax l))
+unfolding delete delete_after_from delete_after_target delete_after_using delete_after_condition delete_after_returning
+    delete_made
+delete_no_from xs l miss q =
+    word_missed (t.Keyword k.From) delete_after_from behind_statement xs l miss q spelled_delete_after_from
 
-pub delete_at_1 : (xs y1 : List Token) (f : Fault) → xs ≡ (t.Keyword k.From) ∷ y1 →
-    Reads table_ref behind_table y1 (failed f) →
-    Reads (delete) behind_statement xs (failed f)
-unfolding delete delete_1 delete_2 delete_3 delete_4 delete_5 delete_made
-delete_at_1 xs y1 f e1 e2 = word_read (t.Keyword k.From) (delete_1) behind_statement xs y1 (failed f) e1
-    (reads_bind_failed table_ref (delete_2) behind_table behind_statement y1 f e2 (λ v2. starts_delete_2 v2)
-    (λ v2. spelled_delete_2 v2))
+pub delete_target_failed : (xs after_from : List Token) (f : Fault) → xs ≡ (t.Keyword k.From) ∷ after_from →
+    Reads table_ref behind_table after_from (failed f) →
+    Reads delete behind_statement xs (failed f)
+unfolding delete delete_after_from delete_after_target delete_after_using delete_after_condition delete_after_returning
+    delete_made
+delete_target_failed xs after_from f at_from fails =
+    word_read (t.Keyword k.From) delete_after_from behind_statement xs after_from (failed f) at_from
+    (reads_bind_failed table_ref delete_after_target behind_table behind_statement after_from f fails
+    (λ target. starts_delete_after_target target) (λ target. spelled_delete_after_target target))
 
-pub delete_at_2 : (xs y1 y2 : List Token) (v2 : TableRef) (f : Fault) → xs ≡ (t.Keyword k.From) ∷ y1 →
-    Reads table_ref behind_table y1 (read v2 y2) →
-    Reads (or_else [] (word k.Using from)) behind_using_list y2 (failed f) →
-    Reads (delete) behind_statement xs (failed f)
-unfolding delete delete_1 delete_2 delete_3 delete_4 delete_5 delete_made
-delete_at_2 xs y1 y2 v2 f e1 e2 e3 = word_read (t.Keyword k.From) (delete_1) behind_statement xs y1 (failed f) e1
-    (part_read table_ref (delete_2) behind_table behind_statement y1 y2 v2 (failed f) e2 (λ v2. starts_delete_2 v2)
-    (reads_bind_failed (or_else [] (word k.Using from)) (delete_3 v2) behind_using_list behind_statement y2 f e3
-    (λ v3. starts_delete_3 v2 v3) (λ v3. spelled_delete_3 v2 v3)))
+pub delete_using_failed : (xs after_from after_target : List Token) (target : TableRef) (f : Fault) →
+    xs ≡ (t.Keyword k.From) ∷ after_from →
+    Reads table_ref behind_table after_from (read target after_target) →
+    Reads (or_else [] (word k.Using from)) behind_using_list after_target (failed f) →
+    Reads delete behind_statement xs (failed f)
+unfolding delete delete_after_from delete_after_target delete_after_using delete_after_condition delete_after_returning
+    delete_made
+delete_using_failed xs after_from after_target target f at_from reads_target fails =
+    word_read (t.Keyword k.From) delete_after_from behind_statement xs after_from (failed f) at_from
+    (part_read table_ref delete_after_target behind_table behind_statement after_from after_target target (failed f)
+    reads_target (λ target. starts_delete_after_target target)
+    (reads_bind_failed (or_else [] (word k.Using from)) (delete_after_using target) behind_using_list behind_statement
+    after_target f fails (λ sources. starts_delete_after_using target sources)
+    (λ sources. spelled_delete_after_using target sources)))
 
-pub delete_at_3 : (xs y1 y2 y3 : List Token) (v2 : TableRef) (v3 : List (Joined Source)) (f : Fault) →
-    xs ≡ (t.Keyword k.From) ∷ y1 →
-    Reads table_ref behind_table y1 (read v2 y2) →
-    Reads (or_else [] (word k.Using from)) behind_using_list y2 (read v3 y3) →
-    Reads condition behind_condition y3 (failed f) →
-    Reads (delete) behind_statement xs (failed f)
-unfolding delete delete_1 delete_2 delete_3 delete_4 delete_5 delete_made
-delete_at_3 xs y1 y2 y3 v2 v3 f e1 e2 e3 e4 =
-    word_read (t.Keyword k.From) (delete_1) behind_statement xs y1 (failed f) e1
-    (part_read table_ref (delete_2) behind_table behind_statement y1 y2 v2 (failed f) e2 (λ v2. starts_delete_2 v2)
-    (part_read (or_else [] (word k.Using from)) (delete_3 v2) behind_using_list behind_statement y2 y3 v3 (failed f) e3
-    (λ v3. starts_delete_3 v2 v3)
-    (reads_bind_failed condition (delete_4 v2 v3) behind_condition behind_statement y3 f e4
-    (λ v4. starts_delete_4 v2 v3 v4) (λ v4. spelled_delete_4 v2 v3 v4))))
+pub delete_condition_failed : (xs after_from after_target after_using : List Token) (target : TableRef)
+    (sources : List (Joined Source)) (f : Fault) →
+    xs ≡ (t.Keyword k.From) ∷ after_from →
+    Reads table_ref behind_table after_from (read target after_target) →
+    Reads (or_else [] (word k.Using from)) behind_using_list after_target (read sources after_using) →
+    Reads condition behind_condition after_using (failed f) →
+    Reads delete behind_statement xs (failed f)
+unfolding delete delete_after_from delete_after_target delete_after_using delete_after_condition delete_after_returning
+    delete_made
+delete_condition_failed xs after_from after_target after_using target sources f at_from reads_target reads_using fails =
+    word_read (t.Keyword k.From) delete_after_from behind_statement xs after_from (failed f) at_from
+    (part_read table_ref delete_after_target behind_table behind_statement after_from after_target target (failed f)
+    reads_target (λ target. starts_delete_after_target target)
+    (part_read (or_else [] (word k.Using from)) (delete_after_using target) behind_using_list behind_statement
+    after_target after_using sources (failed f) reads_using (λ sources. starts_delete_after_using target sources)
+    (reads_bind_failed condition (delete_after_condition target sources) behind_condition behind_statement after_using f
+    fails (λ filter. starts_delete_after_condition target sources filter)
+    (λ filter. spelled_delete_after_condition target sources filter))))
 
-pub delete_at_4 : (xs y1 y2 y3 y4 : List Token) (v2 : TableRef) (v3 : List (Joined Source)) (v4 : Option Tree)
-    (f : Fault) → xs ≡ (t.Keyword k.From) ∷ y1 →
-    Reads table_ref behind_table y1 (read v2 y2) →
-    Reads (or_else [] (word k.Using from)) behind_using_list y2 (read v3 y3) →
-    Reads condition behind_condition y3 (read v4 y4) →
-    Reads returning behind_returning y4 (failed f) →
-    Reads (delete) behind_statement xs (failed f)
-unfolding delete delete_1 delete_2 delete_3 delete_4 delete_5 delete_made
-delete_at_4 xs y1 y2 y3 y4 v2 v3 v4 f e1 e2 e3 e4 e5 =
-    word_read (t.Keyword k.From) (delete_1) behind_statement xs y1 (failed f) e1
-    (part_read table_ref (delete_2) behind_table behind_statement y1 y2 v2 (failed f) e2 (λ v2. starts_delete_2 v2)
-    (part_read (or_else [] (word k.Using from)) (delete_3 v2) behind_using_list behind_statement y2 y3 v3 (failed f) e3
-    (λ v3. starts_delete_3 v2 v3)
-    (part_read condition (delete_4 v2 v3) behind_condition behind_statement y3 y4 v4 (failed f) e4
-    (λ v4. starts_delete_4 v2 v3 v4)
-    (reads_bind_failed returning (delete_5 v2 v3 v4) behind_returning behind_statement y4 f e5
-    (λ v5. starts_delete_5 v2 v3 v4 v5) (λ v5. spelled_delete_5 v2 v3 v4 v5)))))
+pub delete_returning_failed : (xs after_from after_target after_using after_condition : List Token) (target : TableRef)
+    (sources : List (Joined Source)) (filter : Option Tree) (f : Fault) →
+    xs ≡ (t.Keyword k.From) ∷ after_from →
+    Reads table_ref behind_table after_from (read target after_target) →
+    Reads (or_else [] (word k.Using from)) behind_using_list after_target (read sources after_using) →
+    Reads condition behind_condition after_using (read filter after_condition) →
+    Reads returning behind_returning after_condition (failed f) →
+    Reads delete behind_statement xs (failed f)
+unfolding delete delete_after_from delete_after_target delete_after_using delete_after_condition delete_after_returning
+    delete_made
+delete_returning_failed xs after_from after_target after_using after_condition target sources filter f at_from
+    reads_target reads_using reads_condition fails =
+    word_read (t.Keyword k.From) delete_after_from behind_statement xs after_from (failed f) at_from
+    (part_read table_ref delete_after_target behind_table behind_statement after_from after_target target (failed f)
+    reads_target (λ target. starts_delete_after_target target)
+    (part_read (or_else [] (word k.Using from)) (delete_after_using target) behind_using_list behind_statement
+    after_target after_using sources (failed f) reads_using (λ sources. starts_delete_after_using target sources)
+    (part_read condition (delete_after_condition target sources) behind_condition behind_statement after_using
+    after_condition filter (failed f) reads_condition (λ filter. starts_delete_after_condition target sources filter)
+    (reads_bind_failed returning (delete_after_returning target sources filter) behind_returning behind_statement
+    after_condition f fails (λ returned. starts_delete_after_returning target sources filter returned)
+    (λ returned. spelled_delete_after_returning target sources filter returned)))))
 
-pub delete_at_5 : (xs y1 y2 y3 y4 y5 : List Token) (v2 : TableRef) (v3 : List (Joined Source)) (v4 : Option Tree)
-    (v5 : List Item) → xs ≡ (t.Keyword k.From) ∷ y1 →
-    Reads table_ref behind_table y1 (read v2 y2) →
-    Reads (or_else [] (word k.Using from)) behind_using_list y2 (read v3 y3) →
-    Reads condition behind_condition y3 (read v4 y4) →
-    Reads returning behind_returning y4 (read v5 y5) →
-    Reads (delete) behind_statement xs (read (record { target = v2; using = v3; condition = v4; returning = v5 }) y5)
-unfolding delete delete_1 delete_2 delete_3 delete_4 delete_5 delete_made
-delete_at_5 xs y1 y2 y3 y4 y5 v2 v3 v4 v5 e1 e2 e3 e4 e5 =
-    word_read (t.Keyword k.From) (delete_1) behind_statement xs y1
-    (read (record { target = v2; using = v3; condition = v4; returning = v5 }) y5) e1
-    (part_read table_ref (delete_2) behind_table behind_statement y1 y2 v2
-    (read (record { target = v2; using = v3; condition = v4; returning = v5 }) y5) e2 (λ v2. starts_delete_2 v2)
-    (part_read (or_else [] (word k.Using from)) (delete_3 v2) behind_using_list behind_statement y2 y3 v3
-    (read (record { target = v2; using = v3; condition = v4; returning = v5 }) y5) e3 (λ v3. starts_delete_3 v2 v3)
-    (part_read condition (delete_4 v2 v3) behind_condition behind_statement y3 y4 v4
-    (read (record { target = v2; using = v3; condition = v4; returning = v5 }) y5) e4 (λ v4. starts_delete_4 v2 v3 v4)
-    (part_read returning (delete_5 v2 v3 v4) behind_returning behind_statement y4 y5 v5
-    (read (record { target = v2; using = v3; condition = v4; returning = v5 }) y5) e5
-    (λ v5. starts_delete_5 v2 v3 v4 v5)
-    (reads_gives (delete_made v2 v3 v4 v5) (delete_made v2 v3 v4 v5) behind_statement y5 refl)))))
+pub delete_whole : (xs after_from after_target after_using after_condition rest : List Token) (target : TableRef)
+    (sources : List (Joined Source)) (filter : Option Tree) (returned : List Item) →
+    xs ≡ (t.Keyword k.From) ∷ after_from →
+    Reads table_ref behind_table after_from (read target after_target) →
+    Reads (or_else [] (word k.Using from)) behind_using_list after_target (read sources after_using) →
+    Reads condition behind_condition after_using (read filter after_condition) →
+    Reads returning behind_returning after_condition (read returned rest) →
+    Reads delete behind_statement xs (read (record {
+      target = target;
+      using = sources;
+      condition = filter;
+      returning =
+          returned;
+    }) rest)
+unfolding delete delete_after_from delete_after_target delete_after_using delete_after_condition delete_after_returning
+    delete_made
+delete_whole xs after_from after_target after_using after_condition rest target sources filter returned at_from
+    reads_target reads_using reads_condition reads_returning =
+    word_read (t.Keyword k.From) delete_after_from behind_statement xs after_from
+    (read (delete_made target sources filter returned) rest) at_from
+    (part_read table_ref delete_after_target behind_table behind_statement after_from after_target target
+    (read (delete_made target sources filter returned) rest) reads_target (λ target. starts_delete_after_target target)
+    (part_read (or_else [] (word k.Using from)) (delete_after_using target) behind_using_list behind_statement
+    after_target after_using sources (read (delete_made target sources filter returned) rest) reads_using
+    (λ sources. starts_delete_after_using target sources)
+    (part_read condition (delete_after_condition target sources) behind_condition behind_statement after_using
+    after_condition filter (read (delete_made target sources filter returned) rest) reads_condition
+    (λ filter. starts_delete_after_condition target sources filter)
+    (part_read returning (delete_after_returning target sources filter) behind_returning behind_statement
+    after_condition rest returned (read (delete_made target sources filter returned) rest) reads_returning
+    (λ returned. starts_delete_after_returning target sources filter returned)
+    (reads_gives (delete_made target sources filter returned) (delete_made target sources filter returned)
+    behind_statement rest refl)))))

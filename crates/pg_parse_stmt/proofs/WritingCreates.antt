@@ -17,7 +17,8 @@ use Rattle.pg_parse_expr.specs.Grammar.{expr}
 use Rattle.pg_parse_expr.specs.Laws.{is_literal, is_free_name, is_token}
 use Rattle.pg_parse_expr.proofs.Spelled.{integer_read, bigint_read}
 use Rattle.pg_parse_stmt.specs.Forms.{word, optional, list_of, in_brackets}
-use Rattle.pg_parse_stmt.specs.Words.{kind_of, value_of, negative_of, constraint_of, rule_of}
+use Rattle.pg_parse_expr.specs.Operators.{value_of}
+use Rattle.pg_parse_stmt.specs.Words.{kind_of, negative_of, constraint_of, rule_of}
 use Rattle.pg_parse_stmt.specs.Laws.{none_or, some_and_all, is_negative, is_column_constraint, is_column_rule}
 use Rattle.pg_parse_stmt.specs.Laws.{is_table_constraint, is_part, is_create_table, is_create_index}
 use Rattle.pg_parse_stmt.specs.Grammar.{name, names, condition, elements, default, column_constraint_behind}

@@ -35,6 +35,10 @@ behind_columns t = not (is_open t)
 unfoldable pub behind_list : (Option Token → Bool) → Option Token → Bool
 behind_list f t = f t && not (is_comma t)
 
+-- behind [w L], where f may stand behind L
+unfoldable pub behind_optional : Keyword → (Option Token → Bool) → Option Token → Bool
+behind_optional w f t = f t && not (is_word w t)
+
 -- an alias begins
 unfoldable pub begins_alias : Option Token → Bool
 begins_alias (Some (token.Keyword k.As)) = true

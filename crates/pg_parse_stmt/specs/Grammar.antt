@@ -8,10 +8,10 @@ use Rattle.pg_lexer.specs.declared.keyword.Keyword.TheVariants as k
 use Rattle.pg_lexer.specs.declared.sign.Sign.TheVariants as s
 use Rattle.pg_lexer.specs.declared.token.Token.{Token}
 use Rattle.pg_parse_expr.specs.Grammar.{expr}
-use Rattle.pg_parse_expr.specs.Operators.{name_of}
+use Rattle.pg_parse_expr.specs.Operators.{name_of, value_of}
 use Rattle.pg_parse_expr.specs.Tree.{Tree}
 use Rattle.pg_parse_stmt.specs.Forms.{word, sign, or_else, optional, list_of, in_brackets}
-use Rattle.pg_parse_stmt.specs.Words.{bare_name_of, integer_of, kind_of, value_of, negative_of, direction_of, nulls_of, strength_of, lead_of, link_of, change_of, constraint_of, rule_of}
+use Rattle.pg_parse_stmt.specs.Words.{bare_name_of, integer_of, kind_of, negative_of, direction_of, nulls_of, strength_of, lead_of, link_of, change_of, constraint_of, rule_of}
 use Rattle.pg_parse_stmt.specs.declared.tree.Item.{Item}
 use Rattle.pg_parse_stmt.specs.declared.tree.Item.TheVariants as item_of
 use Rattle.pg_parse_stmt.specs.declared.tree.TableRef.{TableRef}

@@ -8,7 +8,6 @@ use Rattle.pg_lexer.specs.declared.keyword.Keyword.TheVariants as k
 use Rattle.pg_lexer.specs.declared.sign.Sign.TheVariants as s
 use Rattle.pg_lexer.specs.declared.token.Token.{Token}
 use Rattle.pg_lexer.specs.declared.token.Token.TheVariants as token
-use Rattle.pg_parse_expr.specs.Operators.{number_value, literal_word}
 use Rattle.pg_parse_stmt.specs.declared.tree.Direction.{Direction}
 use Rattle.pg_parse_stmt.specs.declared.tree.Direction.TheVariants.{Ascending, Descending}
 use Rattle.pg_parse_stmt.specs.declared.tree.NullsPlace.{NullsPlace}
@@ -45,13 +44,6 @@ kind_of (token.Keyword k.Text) = Some kind.Text
 kind_of (token.Keyword k.Boolean) = Some kind.Bool
 kind_of (token.Keyword k.Bool) = Some kind.Bool
 kind_of _ = None
-
--- a number, a text, TRUE, FALSE or NULL, as a value
-unfoldable pub value_of : Token → Option Value
-value_of (token.Integer n) = number_value n
-value_of (token.Quoted text) = Some (value.Text text)
-value_of (token.Keyword word) = literal_word word
-value_of _ = None
 
 -- a number with a minus sign before it: of the kind that it has without
 abbrev pub negative_value : ℕ → Option Value

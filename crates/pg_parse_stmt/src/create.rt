@@ -1,18 +1,17 @@
 //! CREATE TABLE and CREATE UNIQUE INDEX.
-ghost use Rattle.std.specs.Prelude.{◌≡◌, IfOk, List, []};
+ghost use Rattle.std.specs.Prelude.{◌≡◌, List, []};
 ghost use Rattle.pg_grammar.specs.Answers.{Reads, next};
 ghost use Rattle.pg_grammar.specs.Languages.{one, bind, more};
 ghost use Rattle.pg_lexer.specs.declared.keyword.Keyword.TheVariants.{Constraint as constraint_keyword};
-ghost use Rattle.pg_parse_expr.specs.Operators.{number_value};
 ghost use Rattle.pg_parse_stmt.specs.Forms.{word, optional};
-ghost use Rattle.pg_parse_stmt.specs.Words.{value_of, negative_of, negative_value, constraint_of};
+ghost use Rattle.pg_parse_stmt.specs.Words.{negative_of, negative_value, constraint_of};
 ghost use Rattle.pg_grammar.specs.Parts.{seen};
 ghost use Rattle.pg_parse_stmt.specs.Behind.{any, begins_constraint, behind_constraint_name, behind_part, behind_statement};
 ghost use Rattle.pg_parse_stmt.specs.declared.word.RuleWord.TheVariants.{Named};
 ghost use Rattle.pg_parse_stmt.specs.Grammar.{name as name_rule, default, next_rule, column_constraint_behind, column_constraint_named, column_rule_behind, column_part, table_constraint_behind, constraint_part, create_table, create_index};
 
-use crate::front::{Read, accept_sign, accept_word, name};
-use crate::list::{Listed, expr_in_brackets, list_in_brackets};
+use crate::front::{Read, name};
+use crate::list::{Listed, expr_in_brackets, list_in_brackets, optional};
 use crate::source::condition;
 use crate::tree::{
     ColumnConstraint, ColumnPart, ColumnRule, CreateIndex, CreateTable, Element, StmtTree,
@@ -20,25 +19,13 @@ use crate::tree::{
 };
 use crate::word::{ConstraintWord, RuleWord, accept, expect};
 use pg_grammar::{Fault, Part};
-use pg_lexer::{Keyword, NameText, QuotedText, Sign, Token};
+use pg_lexer::{Keyword, NameText, Sign, Token};
 use pg_lists::Items;
-use pg_values::{Kind, Text, Value};
-use std::alloc::{AllocError, Global};
+use pg_parse_expr::{accept_sign, accept_word, value_of};
+use pg_values::{Kind, Value};
+use std::alloc::Global;
 
-/// A number as a value: of 32 bits where it fits, and else of 64.
-fn number_value(number: u64) -> Option<Value>
-    ensures { result ≡ number_value number }
-{
-    if number <= 2147483647 {
-        Some(Value::Int(number as i32))
-    } else if number <= 9223372036854775807 {
-        Some(Value::Big(number as i64))
-    } else {
-        None
-    }
-}
-
-/// The same with a minus sign.
+/// A number with a minus sign, as a value: of 32 bits where it has them without, and else of 64.
 fn negative_value(number: u64) -> Option<Value>
     ensures { result ≡ negative_value number }
 {
@@ -48,27 +35,6 @@ fn negative_value(number: u64) -> Option<Value>
         Some(Value::Big(-(number as i64)))
     } else {
         None
-    }
-}
-
-fn text_of(alloc: Global, text: &QuotedText) -> Result<Text, AllocError>
-    ensures { IfOk result (λ value. value ≡ text.now) }
-{
-    Text::from_slice(alloc, text.as_bytes())
-}
-
-/// The value of a token that is a literal.
-#[tactic(auto, unfolding(crate::specs::Words::value_of))]
-fn literal(alloc: Global, token: &Token) -> Result<Option<Value>, AllocError>
-    ensures { IfOk result (λ value. value ≡ value_of token.now) }
-{
-    match token {
-        Token::Integer(number) => Ok(number_value(*number)),
-        Token::Quoted(text) => Ok(Some(Value::Text(text_of(alloc, text)?))),
-        Token::Keyword(Keyword::True) => Ok(Some(Value::Bool(true))),
-        Token::Keyword(Keyword::False) => Ok(Some(Value::Bool(false))),
-        Token::Keyword(Keyword::Null) => Ok(Some(Value::Null)),
-        _ => Ok(None),
     }
 }
 
@@ -108,7 +74,7 @@ fn default<'a>(alloc: Global, tokens: &'a [Token]) -> Read<'a, Value>
             Err(fault) => Err(fault),
         },
         None => match tokens.split_first() {
-            Some((first, rest)) => match literal(alloc, first)? {
+            Some((first, rest)) => match value_of(alloc, first)? {
                 Some(value) => Ok(Part { value, rest }),
                 None => Err(Fault::Syntax(tokens.len())),
             },
@@ -234,7 +200,7 @@ fn column_rules<'a>(alloc: Global, tokens: &'a [Token]) -> Read<'a, Items<Column
 }
 
 /// `name kind {rule}`
-#[tactic(auto, using(crate::proofs::Parts::column_part_at_0, crate::proofs::Parts::column_part_at_1, crate::proofs::Parts::column_part_at_2, crate::proofs::Parts::column_part_at_3))]
+#[tactic(auto, using(crate::proofs::Parts::column_part_name_failed, crate::proofs::Parts::column_part_kind_failed, crate::proofs::Parts::column_part_rules_failed, crate::proofs::Parts::column_part_whole))]
 fn column_part<'a>(alloc: Global, tokens: &'a [Token]) -> Read<'a, TablePart>
     ensures { Reads column_part behind_part tokens.now (seen result) }
 {
@@ -297,23 +263,11 @@ fn table_constraint<'a>(
 }
 
 /// `[CONSTRAINT name]`
-#[tactic(auto, using(crate::proofs::Parts::constraint_name_read, crate::proofs::Parts::constraint_name_failed, crate::proofs::Parts::constraint_name_none))]
+#[tactic(auto, unfolding(crate::specs::Behind::behind_constraint_name, crate::specs::Behind::behind_optional))]
 fn constraint_name<'a>(alloc: Global, tokens: &'a [Token]) -> Read<'a, Option<NameText>>
     ensures { Reads (optional (word constraint_keyword name_rule)) behind_constraint_name tokens.now (seen result) }
 {
-    match accept_word(tokens, Keyword::Constraint) {
-        Some(rest) => match name(alloc, rest) {
-            Ok(Part { value, rest }) => Ok(Part {
-                value: Some(value),
-                rest,
-            }),
-            Err(fault) => Err(fault),
-        },
-        None => Ok(Part {
-            value: None,
-            rest: tokens,
-        }),
-    }
+    optional::<NameText>(alloc, tokens, Keyword::Constraint)
 }
 
 /// A constraint of a table, without its name.
@@ -328,7 +282,7 @@ fn unnamed_constraint<'a>(alloc: Global, tokens: &'a [Token]) -> Read<'a, TableC
 }
 
 /// `[CONSTRAINT name] constraint`
-#[tactic(auto, using(crate::proofs::Parts::constraint_part_at_0, crate::proofs::Parts::constraint_part_at_1, crate::proofs::Parts::constraint_part_at_2))]
+#[tactic(auto, using(crate::proofs::Parts::constraint_part_name_failed, crate::proofs::Parts::constraint_part_body_failed, crate::proofs::Parts::constraint_part_whole))]
 fn constraint_part<'a>(alloc: Global, tokens: &'a [Token]) -> Read<'a, TablePart>
     ensures { Reads constraint_part any tokens.now (seen result) }
 {
@@ -393,7 +347,7 @@ impl Listed for TablePart {
 }
 
 /// `TABLE name "(" part {"," part} ")"`, behind CREATE.
-#[tactic(auto, using(crate::proofs::Creates::create_table_at_0, crate::proofs::Creates::create_table_at_1, crate::proofs::Creates::create_table_at_2, crate::proofs::Creates::create_table_at_3))]
+#[tactic(auto, using(crate::proofs::Creates::create_table_no_word, crate::proofs::Creates::create_table_name_failed, crate::proofs::Creates::create_table_parts_failed, crate::proofs::Creates::create_table_whole))]
 pub(crate) fn create_table<'a>(alloc: Global, tokens: &'a [Token]) -> Read<'a, StmtTree>
     ensures { Reads create_table behind_statement tokens.now (seen result) }
 {
@@ -415,7 +369,7 @@ pub(crate) fn create_table<'a>(alloc: Global, tokens: &'a [Token]) -> Read<'a, S
 }
 
 /// `UNIQUE INDEX name ON name "(" element {"," element} ")" [WHERE expr]`, behind CREATE.
-#[tactic(auto, using(crate::proofs::Creates::create_index_at_0, crate::proofs::Creates::create_index_at_1, crate::proofs::Creates::create_index_at_2, crate::proofs::Creates::create_index_at_3, crate::proofs::Creates::create_index_at_4, crate::proofs::Creates::create_index_at_5, crate::proofs::Creates::create_index_at_6, crate::proofs::Creates::create_index_at_7), unfolding(crate::specs::Grammar::elements))]
+#[tactic(auto, using(crate::proofs::Creates::create_index_no_unique, crate::proofs::Creates::create_index_no_index, crate::proofs::Creates::create_index_name_failed, crate::proofs::Creates::create_index_no_on, crate::proofs::Creates::create_index_table_failed, crate::proofs::Creates::create_index_elements_failed, crate::proofs::Creates::create_index_condition_failed, crate::proofs::Creates::create_index_whole), unfolding(crate::specs::Grammar::elements))]
 pub(crate) fn create_index<'a>(alloc: Global, tokens: &'a [Token]) -> Read<'a, StmtTree>
     ensures { Reads create_index behind_statement tokens.now (seen result) }
 {

@@ -1,9 +1,8 @@
 //! What stands first.
-ghost use Rattle.std.specs.Prelude.{◌≡◌, ◌∷◌, MatchOption, IfOk, IsTrue, ◌↔◌};
-ghost use Rattle.pg_grammar.specs.Answers.{Misses, Reads, next};
+ghost use Rattle.std.specs.Prelude.{◌≡◌, IfOk};
+ghost use Rattle.pg_grammar.specs.Answers.{Reads, next};
 ghost use Rattle.pg_grammar.specs.Languages.{one};
 ghost use Rattle.pg_grammar.specs.Parts.{seen};
-ghost use Rattle.pg_lexer.specs.declared.token.Token.TheVariants.{Keyword as word_token, Sign as sign_token};
 ghost use Rattle.pg_parse_stmt.specs.Behind.{any};
 ghost use Rattle.pg_parse_stmt.specs.Grammar.{name};
 ghost use Rattle.pg_parse_expr.specs.Behind.{has};
@@ -11,68 +10,12 @@ ghost use Rattle.pg_parse_expr.specs.Operators.{name_of};
 ghost use Rattle.pg_parse_stmt.specs.Words.{bare_name_of, integer_of};
 
 use pg_grammar::{Fault, Part};
-use pg_lexer::{Keyword, NameText, Sign, Token};
+use pg_lexer::{NameText, Token};
+use pg_parse_expr::name_of;
 use std::alloc::{AllocError, Global};
 
 /// What was read, with the tokens behind it.
 pub(crate) type Read<'a, V> = Result<Part<'a, Token, V>, Fault>;
-
-fn is_word(token: &Token, word: Keyword) -> bool
-    ensures { IsTrue result ↔ (token.now ≡ word_token word) }
-{
-    match token {
-        Token::Keyword(keyword) => *keyword == word,
-        _ => false,
-    }
-}
-
-fn is_sign(token: &Token, sign: Sign) -> bool
-    ensures { IsTrue result ↔ (token.now ≡ sign_token sign) }
-{
-    match token {
-        Token::Sign(other) => *other == sign,
-        _ => false,
-    }
-}
-
-/// The tokens behind a reserved word, if it stands first.
-pub(crate) fn accept_word(tokens: &[Token], word: Keyword) -> Option<&[Token]>
-    ensures { MatchOption result (Misses (word_token word) tokens.now) (λ rest. tokens.now ≡ word_token word ∷ rest.now) }
-{
-    let (first, rest) = tokens.split_first()?;
-    if is_word(first, word) {
-        Some(rest)
-    } else {
-        None
-    }
-}
-
-/// The tokens behind a sign, if it stands first.
-pub(crate) fn accept_sign(tokens: &[Token], sign: Sign) -> Option<&[Token]>
-    ensures { MatchOption result (Misses (sign_token sign) tokens.now) (λ rest. tokens.now ≡ sign_token sign ∷ rest.now) }
-{
-    let (first, rest) = tokens.split_first()?;
-    if is_sign(first, sign) {
-        Some(rest)
-    } else {
-        None
-    }
-}
-
-/// The name that a token is, if it may be one.
-#[tactic(auto, unfolding(pg_parse_expr::specs::Operators::name_of))]
-fn name_of(alloc: Global, token: &Token) -> Result<Option<NameText>, AllocError>
-    ensures { IfOk result (λ name. name ≡ name_of token.now) }
-{
-    match token {
-        Token::Name(name) => Ok(Some(name.copy(alloc)?)),
-        Token::Keyword(word) if word.may_be_name() => Ok(Some(NameText::from_slice(
-            alloc,
-            word.spelling(),
-        )?)),
-        _ => Ok(None),
-    }
-}
 
 /// The name that a token is, if it is no reserved word.
 #[tactic(auto, unfolding(crate::specs::Words::bare_name_of))]

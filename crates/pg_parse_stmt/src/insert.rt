@@ -5,7 +5,7 @@ ghost use Rattle.pg_parse_stmt.specs.Behind.{any, behind_columns, behind_conditi
 ghost use Rattle.pg_parse_stmt.specs.Forms.{optional};
 ghost use Rattle.pg_parse_stmt.specs.Grammar.{assignment, sets, element, elements, columns, rows, target_elements, target_constraint, conflict_target, upsert, conflict_act, conflict, insert};
 
-use crate::front::{Read, accept_sign, accept_word, name};
+use crate::front::{Read, name};
 use crate::list::{Listed, expr, expr_in_brackets, list, list_in_brackets};
 use crate::select::{as_name, returning};
 use crate::source::{condition, subselect};
@@ -15,6 +15,7 @@ use crate::tree::{
 use pg_grammar::{Fault, Part};
 use pg_lexer::{Keyword, NameText, Sign, Token};
 use pg_lists::Items;
+use pg_parse_expr::{accept_sign, accept_word};
 use std::alloc::Global;
 
 /// `name "=" expr`
@@ -28,7 +29,7 @@ impl Listed for Assignment {
 
     ghost follows = { behind_expr };
 
-    #[tactic(auto, using(crate::proofs::Assignments::assignment_at_0, crate::proofs::Assignments::assignment_at_1, crate::proofs::Assignments::assignment_at_2, crate::proofs::Assignments::assignment_at_3))]
+    #[tactic(auto, using(crate::proofs::Assignments::assignment_column_failed, crate::proofs::Assignments::assignment_no_equal, crate::proofs::Assignments::assignment_value_failed, crate::proofs::Assignments::assignment_whole))]
     fn read<'a>(alloc: Global, tokens: &'a [Token]) -> Read<'a, Assignment> {
         let Part {
             value: column,
@@ -136,7 +137,7 @@ fn rows<'a>(alloc: Global, tokens: &'a [Token]) -> Read<'a, Rows>
 }
 
 /// `"(" element {"," element} ")" [WHERE expr]`
-#[tactic(auto, using(crate::proofs::Inserts::target_elements_at_0, crate::proofs::Inserts::target_elements_at_1, crate::proofs::Inserts::target_elements_at_2), unfolding(crate::specs::Grammar::elements))]
+#[tactic(auto, using(crate::proofs::Inserts::target_list_elements_failed, crate::proofs::Inserts::target_list_condition_failed, crate::proofs::Inserts::target_list_whole), unfolding(crate::specs::Grammar::elements))]
 fn target_elements<'a>(alloc: Global, tokens: &'a [Token]) -> Read<'a, ConflictTarget>
     ensures { Reads target_elements behind_condition tokens.now (seen result) }
 {
@@ -162,7 +163,7 @@ fn target_elements<'a>(alloc: Global, tokens: &'a [Token]) -> Read<'a, ConflictT
 }
 
 /// `ON CONSTRAINT name`
-#[tactic(auto, using(crate::proofs::Inserts::target_constraint_at_0, crate::proofs::Inserts::target_constraint_at_1, crate::proofs::Inserts::target_constraint_at_2, crate::proofs::Inserts::target_constraint_at_3))]
+#[tactic(auto, using(crate::proofs::Inserts::target_constraint_no_on, crate::proofs::Inserts::target_constraint_no_word, crate::proofs::Inserts::target_constraint_name_failed, crate::proofs::Inserts::target_constraint_whole))]
 fn target_constraint<'a>(alloc: Global, tokens: &'a [Token]) -> Read<'a, ConflictTarget>
     ensures { Reads target_constraint any tokens.now (seen result) }
 {
@@ -213,7 +214,7 @@ fn conflict_target<'a>(alloc: Global, tokens: &'a [Token]) -> Read<'a, Option<Co
 }
 
 /// `UPDATE SET sets [WHERE expr]`, behind DO.
-#[tactic(auto, using(crate::proofs::Inserts::upsert_at_0, crate::proofs::Inserts::upsert_at_1, crate::proofs::Inserts::upsert_at_2, crate::proofs::Inserts::upsert_at_3, crate::proofs::Inserts::upsert_at_4), unfolding(crate::specs::Grammar::sets, crate::specs::Behind::behind_sets))]
+#[tactic(auto, using(crate::proofs::Inserts::upsert_no_update, crate::proofs::Inserts::upsert_no_set, crate::proofs::Inserts::upsert_sets_failed, crate::proofs::Inserts::upsert_condition_failed, crate::proofs::Inserts::upsert_whole), unfolding(crate::specs::Grammar::sets, crate::specs::Behind::behind_sets))]
 fn upsert<'a>(alloc: Global, tokens: &'a [Token], target: ConflictTarget) -> Read<'a, Conflict>
     ensures { Reads (upsert target) behind_conflict tokens.now (seen result) }
 {
@@ -307,7 +308,7 @@ fn conflict<'a>(alloc: Global, tokens: &'a [Token]) -> Read<'a, Option<Conflict>
 }
 
 /// `INTO name [AS name] ["(" names ")"] rows [conflict] [returning]`, behind INSERT.
-#[tactic(auto, using(crate::proofs::Inserts::insert_at_0, crate::proofs::Inserts::insert_at_1, crate::proofs::Inserts::insert_at_2, crate::proofs::Inserts::insert_at_3, crate::proofs::Inserts::insert_at_4, crate::proofs::Inserts::insert_at_5, crate::proofs::Inserts::insert_at_6, crate::proofs::Inserts::insert_at_7))]
+#[tactic(auto, using(crate::proofs::Inserts::insert_no_into, crate::proofs::Inserts::insert_table_failed, crate::proofs::Inserts::insert_alias_failed, crate::proofs::Inserts::insert_columns_failed, crate::proofs::Inserts::insert_rows_failed, crate::proofs::Inserts::insert_conflict_failed, crate::proofs::Inserts::insert_returning_failed, crate::proofs::Inserts::insert_whole))]
 pub(crate) fn insert<'a>(alloc: Global, tokens: &'a [Token]) -> Read<'a, Insert>
     ensures { Reads insert behind_statement tokens.now (seen result) }
 {

@@ -1,19 +1,19 @@
-//! Lists with commas, and what stands in brackets.
+//! Lists with commas, what stands in brackets, and what may be left out with the word before it.
 ghost use Rattle.pg_grammar.specs.Answers.{Reads};
 ghost use Rattle.pg_grammar.specs.Parts.{seen};
-ghost use Rattle.pg_parse_stmt.specs.Behind.{any, behind_list};
-ghost use Rattle.pg_parse_stmt.specs.Forms.{list_of, in_brackets};
+ghost use Rattle.pg_parse_stmt.specs.Behind.{any, behind_list, behind_optional};
+ghost use Rattle.pg_parse_stmt.specs.Forms.{list_of, in_brackets, optional, word as word_rule};
 ghost use Rattle.pg_parse_expr.specs.Grammar.{expr};
 ghost use Rattle.pg_parse_expr.specs.Behind.{behind_expr};
 
-use crate::front::{Read, accept_sign, name};
+use crate::front::{Read, name};
 use pg_grammar::{Fault, Part};
-use pg_lexer::{NameText, Sign, Token};
+use pg_lexer::{Keyword, NameText, Sign, Token};
 use pg_lists::Items;
-use pg_parse_expr::ExprTree;
+use pg_parse_expr::{ExprTree, accept_sign, accept_word};
 use std::alloc::Global;
 
-/// What lists with commas hold.
+/// What lists with commas hold, and what may be left out with the word before it.
 pub(crate) trait Listed: Drop + Sized {
     ghost use Rattle.std.specs.Prelude.{◌≡◌, Option, Some, Bool, true};
     ghost use Rattle.pg_grammar.proofs.Words.{Spelled};
@@ -84,6 +84,30 @@ pub(crate) fn list_in_brackets<'a, T: Listed>(
     match accept_sign(rest, Sign::Close) {
         Some(rest) => Ok(Part { value, rest }),
         None => Err(Fault::Syntax(rest.len())),
+    }
+}
+
+/// A reserved word and a part, or nothing.
+#[tactic(auto, using(crate::proofs::Steps::optional_read, crate::proofs::Steps::optional_failed, crate::proofs::Steps::optional_none))]
+pub(crate) fn optional<'a, T: Listed>(
+    alloc: Global,
+    tokens: &'a [Token],
+    word: Keyword,
+) -> Read<'a, Option<T>>
+    ensures { Reads (optional (word_rule word T.rule)) (behind_optional word T.follows) tokens.now (seen result) }
+{
+    match accept_word(tokens, word) {
+        Some(rest) => match T::read(alloc, rest) {
+            Ok(Part { value, rest }) => Ok(Part {
+                value: Some(value),
+                rest,
+            }),
+            Err(fault) => Err(fault),
+        },
+        None => Ok(Part {
+            value: None,
+            rest: tokens,
+        }),
     }
 }
 

@@ -8,9 +8,9 @@ ghost use Rattle.pg_parse_stmt.specs.Forms.{word, optional};
 ghost use Rattle.pg_parse_stmt.specs.Grammar.{change_behind, change, addition_insert, addition_nothing, addition, then, by_whom, not_matched, when_behind, whens, merge};
 ghost use Rattle.pg_parse_stmt.specs.declared.tree.When.TheVariants.{Matched, NotBySource, NotByTarget};
 
-use crate::front::{Read, accept_word};
+use crate::front::Read;
 use crate::insert::columns;
-use crate::list::{expr, list, list_in_brackets};
+use crate::list::{expr, list, list_in_brackets, optional};
 use crate::select::returning;
 use crate::source::{FromSource, table_ref};
 use crate::tree::{Addition, Assignment, Change, Merge, Source, When};
@@ -18,7 +18,7 @@ use crate::word::{ChangeWord, expect};
 use pg_grammar::{Fault, Part};
 use pg_lexer::{Keyword, Token};
 use pg_lists::Items;
-use pg_parse_expr::ExprTree;
+use pg_parse_expr::{ExprTree, accept_word};
 use std::alloc::Global;
 
 /// `UPDATE SET sets | DELETE | DO NOTHING`, behind its first word.
@@ -66,7 +66,7 @@ fn change<'a>(alloc: Global, tokens: &'a [Token]) -> Read<'a, Change>
 }
 
 /// `INSERT ["(" names ")"] VALUES tuple`
-#[tactic(auto, using(crate::proofs::Merges::addition_insert_at_0, crate::proofs::Merges::addition_insert_at_1, crate::proofs::Merges::addition_insert_at_2, crate::proofs::Merges::addition_insert_at_3, crate::proofs::Merges::addition_insert_at_4), unfolding(crate::specs::Grammar::tuple))]
+#[tactic(auto, using(crate::proofs::Merges::addition_insert_no_insert, crate::proofs::Merges::addition_insert_columns_failed, crate::proofs::Merges::addition_insert_no_values, crate::proofs::Merges::addition_insert_tuple_failed, crate::proofs::Merges::addition_insert_whole), unfolding(crate::specs::Grammar::tuple))]
 fn addition_insert<'a>(alloc: Global, tokens: &'a [Token]) -> Read<'a, Addition>
     ensures { Reads addition_insert any tokens.now (seen result) }
 {
@@ -92,7 +92,7 @@ fn addition_insert<'a>(alloc: Global, tokens: &'a [Token]) -> Read<'a, Addition>
 }
 
 /// `DO NOTHING`
-#[tactic(auto, using(crate::proofs::Merges::addition_nothing_at_0, crate::proofs::Merges::addition_nothing_at_1, crate::proofs::Merges::addition_nothing_at_2))]
+#[tactic(auto, using(crate::proofs::Merges::addition_nothing_no_do, crate::proofs::Merges::addition_nothing_no_word, crate::proofs::Merges::addition_nothing_whole))]
 fn addition_nothing(tokens: &[Token]) -> Read<'_, Addition>
     ensures { Reads addition_nothing any tokens.now (seen result) }
 {
@@ -126,23 +126,11 @@ fn addition<'a>(alloc: Global, tokens: &'a [Token]) -> Read<'a, Addition>
 }
 
 /// `[AND expr]`
-#[tactic(auto, using(crate::proofs::Merges::guard_read, crate::proofs::Merges::guard_failed, crate::proofs::Merges::guard_none))]
+#[tactic(auto, unfolding(crate::specs::Behind::behind_guard, crate::specs::Behind::behind_optional))]
 fn guard<'a>(alloc: Global, tokens: &'a [Token]) -> Read<'a, Option<ExprTree>>
     ensures { Reads (optional (word And expr_rule)) behind_guard tokens.now (seen result) }
 {
-    match accept_word(tokens, Keyword::And) {
-        Some(rest) => match expr(alloc, rest) {
-            Ok(Part { value, rest }) => Ok(Part {
-                value: Some(value),
-                rest,
-            }),
-            Err(fault) => Err(fault),
-        },
-        None => Ok(Part {
-            value: None,
-            rest: tokens,
-        }),
-    }
+    optional::<ExprTree>(alloc, tokens, Keyword::And)
 }
 
 /// `[AND expr] THEN` and a change of a matched row.
@@ -285,7 +273,7 @@ fn whens<'a>(alloc: Global, tokens: &'a [Token]) -> Read<'a, Items<When>>
 }
 
 /// `INTO name [[AS] name] USING source ON expr when {when} [returning]`, behind MERGE.
-#[tactic(auto, using(crate::proofs::Merges::merge_at_0, crate::proofs::Merges::merge_at_1, crate::proofs::Merges::merge_at_2, crate::proofs::Merges::merge_at_3, crate::proofs::Merges::merge_at_4, crate::proofs::Merges::merge_at_5, crate::proofs::Merges::merge_at_6, crate::proofs::Merges::merge_at_7, crate::proofs::Merges::merge_at_8))]
+#[tactic(auto, using(crate::proofs::Merges::merge_no_into, crate::proofs::Merges::merge_target_failed, crate::proofs::Merges::merge_no_using, crate::proofs::Merges::merge_source_failed, crate::proofs::Merges::merge_no_on, crate::proofs::Merges::merge_condition_failed, crate::proofs::Merges::merge_whens_failed, crate::proofs::Merges::merge_returning_failed, crate::proofs::Merges::merge_whole))]
 pub(crate) fn merge<'a>(alloc: Global, tokens: &'a [Token]) -> Read<'a, Merge>
     ensures { Reads merge behind_statement tokens.now (seen result) }
 {

@@ -6,14 +6,15 @@ ghost use Rattle.pg_grammar.specs.Parts.{seen};
 ghost use Rattle.pg_parse_stmt.specs.Behind.{any, behind_as, behind_item, behind_items, behind_returning, behind_direction, behind_nulls, behind_order_key, behind_order, behind_limit, behind_wait, behind_of, behind_locked, behind_locking, behind_statement};
 ghost use Rattle.pg_parse_stmt.specs.Grammar.{item, as_name, named_expr, returning, direction, nulls_by, nulls, order_key, order, limit, strength_behind, strength, of_table, lock_wait, locked, locking, select};
 
-use crate::front::{Read, accept_sign, accept_word, begins_name, integer, name};
-use crate::list::{Listed, expr, list};
+use crate::front::{Read, begins_name, integer, name};
+use crate::list::{Listed, expr, list, optional};
 use crate::source::{condition, sources};
 use crate::tree::{Direction, Item, LockStrength, LockWait, Locking, NullsPlace, OrderKey, Select};
 use crate::word::{accept, expect};
 use pg_grammar::{Fault, Part};
 use pg_lexer::{Keyword, NameText, Sign, Token};
 use pg_lists::Items;
+use pg_parse_expr::{accept_sign, accept_word};
 use std::alloc::Global;
 
 /// The tokens behind `name "."`, if that stands first.
@@ -50,7 +51,7 @@ fn all_of<'a>(alloc: Global, tokens: &'a [Token], rest: &'a [Token]) -> Read<'a,
 }
 
 /// `expr [AS name]`
-#[tactic(auto, using(crate::proofs::Naming::named_expr_at_0, crate::proofs::Naming::named_expr_at_1, crate::proofs::Naming::named_expr_at_2))]
+#[tactic(auto, using(crate::proofs::Naming::named_expr_expr_failed, crate::proofs::Naming::named_expr_name_failed, crate::proofs::Naming::named_expr_whole))]
 fn named_expr<'a>(alloc: Global, tokens: &'a [Token]) -> Read<'a, Item>
     ensures { Reads named_expr behind_item tokens.now (seen result) }
 {
@@ -68,23 +69,11 @@ fn named_expr<'a>(alloc: Global, tokens: &'a [Token]) -> Read<'a, Item>
 }
 
 /// `[AS name]`
-#[tactic(auto, using(crate::proofs::Naming::as_read, crate::proofs::Naming::as_failed, crate::proofs::Naming::as_none))]
+#[tactic(auto, unfolding(crate::specs::Grammar::as_name, crate::specs::Behind::behind_as, crate::specs::Behind::behind_optional))]
 pub(crate) fn as_name<'a>(alloc: Global, tokens: &'a [Token]) -> Read<'a, Option<NameText>>
     ensures { Reads as_name behind_as tokens.now (seen result) }
 {
-    match accept_word(tokens, Keyword::As) {
-        Some(rest) => match name(alloc, rest) {
-            Ok(Part { value, rest }) => Ok(Part {
-                value: Some(value),
-                rest,
-            }),
-            Err(fault) => Err(fault),
-        },
-        None => Ok(Part {
-            value: None,
-            rest: tokens,
-        }),
-    }
+    optional::<NameText>(alloc, tokens, Keyword::As)
 }
 
 impl Listed for Item {
@@ -183,7 +172,7 @@ impl Listed for OrderKey {
 
     ghost follows = { behind_order_key };
 
-    #[tactic(auto, using(crate::proofs::Orders::order_key_at_0, crate::proofs::Orders::order_key_at_2, crate::proofs::Orders::order_key_at_3))]
+    #[tactic(auto, using(crate::proofs::Orders::order_key_expr_failed, crate::proofs::Orders::order_key_nulls_failed, crate::proofs::Orders::order_key_whole))]
     fn read<'a>(alloc: Global, tokens: &'a [Token]) -> Read<'a, OrderKey> {
         let Part { value: expr, rest } = match expr(alloc, tokens) {
             Ok(part) => part,
@@ -316,27 +305,15 @@ fn lock_wait(tokens: &[Token]) -> Read<'_, LockWait>
 }
 
 /// `[OF name]`
-#[tactic(auto, using(crate::proofs::Locks::of_read, crate::proofs::Locks::of_failed, crate::proofs::Locks::of_none))]
+#[tactic(auto, unfolding(crate::specs::Grammar::of_table, crate::specs::Behind::behind_of, crate::specs::Behind::behind_optional))]
 fn of_table<'a>(alloc: Global, tokens: &'a [Token]) -> Read<'a, Option<NameText>>
     ensures { Reads of_table behind_of tokens.now (seen result) }
 {
-    match accept_word(tokens, Keyword::Of) {
-        Some(rest) => match name(alloc, rest) {
-            Ok(Part { value, rest }) => Ok(Part {
-                value: Some(value),
-                rest,
-            }),
-            Err(fault) => Err(fault),
-        },
-        None => Ok(Part {
-            value: None,
-            rest: tokens,
-        }),
-    }
+    optional::<NameText>(alloc, tokens, Keyword::Of)
 }
 
 /// `strength [OF name] [NOWAIT | SKIP LOCKED]`, behind FOR.
-#[tactic(auto, using(crate::proofs::Locks::locked_at_0, crate::proofs::Locks::locked_at_1, crate::proofs::Locks::locked_at_2, crate::proofs::Locks::locked_at_3))]
+#[tactic(auto, using(crate::proofs::Locks::locked_strength_failed, crate::proofs::Locks::locked_table_failed, crate::proofs::Locks::locked_wait_failed, crate::proofs::Locks::locked_whole))]
 fn locked<'a>(alloc: Global, tokens: &'a [Token]) -> Read<'a, Locking>
     ensures { Reads locked behind_locked tokens.now (seen result) }
 {
@@ -385,7 +362,7 @@ fn locking<'a>(alloc: Global, tokens: &'a [Token]) -> Read<'a, Option<Locking>>
 }
 
 /// `items FROM from [WHERE expr] [ORDER BY order_key {"," order_key}] [LIMIT integer] [FOR locked]`, behind SELECT.
-#[tactic(auto, using(crate::proofs::Selects::select_at_0, crate::proofs::Selects::select_at_1, crate::proofs::Selects::select_at_2, crate::proofs::Selects::select_at_3, crate::proofs::Selects::select_at_4, crate::proofs::Selects::select_at_5, crate::proofs::Selects::select_at_6, crate::proofs::Selects::select_at_7), unfolding(crate::specs::Grammar::items, crate::specs::Behind::behind_items))]
+#[tactic(auto, using(crate::proofs::Selects::select_items_failed, crate::proofs::Selects::select_no_from, crate::proofs::Selects::select_sources_failed, crate::proofs::Selects::select_condition_failed, crate::proofs::Selects::select_order_failed, crate::proofs::Selects::select_limit_failed, crate::proofs::Selects::select_locking_failed, crate::proofs::Selects::select_whole), unfolding(crate::specs::Grammar::items, crate::specs::Behind::behind_items))]
 pub(crate) fn select<'a>(alloc: Global, tokens: &'a [Token]) -> Read<'a, Select>
     ensures { Reads select behind_statement tokens.now (seen result) }
 {

@@ -7,8 +7,8 @@ ghost use Rattle.pg_parse_stmt.specs.Behind.{any, behind_condition, behind_table
 ghost use Rattle.pg_parse_stmt.specs.Forms.{optional};
 ghost use Rattle.pg_parse_stmt.specs.Grammar.{alias, table_named, table_ref, from, from_of, alone, joined, linked, condition as condition_rule, subselect, values_source, query_source, bracketed, source, table_source, sources_in, sources_of, one_source};
 
-use crate::front::{Read, accept_sign, accept_word, bare_name, begins_name, name};
-use crate::list::{Listed, expr, list, list_in_brackets};
+use crate::front::{Read, bare_name, begins_name, name};
+use crate::list::{Listed, expr, list, list_in_brackets, optional};
 use crate::tree::{
     Item, Joined, QuerySource, Source, Sources, Subselect, TableRef, Tuple, ValuesSource,
 };
@@ -16,7 +16,7 @@ use crate::word::{Link, accept};
 use pg_grammar::{Fault, Part};
 use pg_lexer::{Keyword, NameText, Sign, Token};
 use pg_lists::Items;
-use pg_parse_expr::ExprTree;
+use pg_parse_expr::{ExprTree, accept_sign, accept_word};
 use std::alloc::Global;
 
 /// The most sources of a statement.
@@ -111,23 +111,11 @@ fn table_source<'a>(alloc: Global, tokens: &'a [Token], before: usize) -> Read<'
 }
 
 /// `[WHERE expr]`
-#[tactic(auto, using(crate::proofs::Conditions::where_read, crate::proofs::Conditions::where_failed, crate::proofs::Conditions::where_none))]
+#[tactic(auto, unfolding(crate::specs::Grammar::condition, crate::specs::Behind::behind_condition, crate::specs::Behind::behind_optional))]
 pub(crate) fn condition<'a>(alloc: Global, tokens: &'a [Token]) -> Read<'a, Option<ExprTree>>
     ensures { Reads condition_rule behind_condition tokens.now (seen result) }
 {
-    match accept_word(tokens, Keyword::Where) {
-        Some(rest) => match expr(alloc, rest) {
-            Ok(Part { value, rest }) => Ok(Part {
-                value: Some(value),
-                rest,
-            }),
-            Err(fault) => Err(fault),
-        },
-        None => Ok(Part {
-            value: None,
-            rest: tokens,
-        }),
-    }
+    optional::<ExprTree>(alloc, tokens, Keyword::Where)
 }
 
 /// What FROM and USING list: `before` sources of the statement begin before it.
@@ -310,7 +298,7 @@ impl FromSource for TableRef {
 }
 
 /// `items FROM from [WHERE expr]`, behind SELECT.
-#[tactic(auto, using(crate::proofs::Subselects::subselect_at_0, crate::proofs::Subselects::subselect_at_1, crate::proofs::Subselects::subselect_at_2, crate::proofs::Subselects::subselect_at_3, crate::proofs::Subselects::subselect_at_4, crate::proofs::Froms::tables_counted), unfolding(crate::specs::Grammar::items, crate::specs::Behind::behind_items))]
+#[tactic(auto, using(crate::proofs::Subselects::subselect_items_failed, crate::proofs::Subselects::subselect_no_from, crate::proofs::Subselects::subselect_sources_failed, crate::proofs::Subselects::subselect_condition_failed, crate::proofs::Subselects::subselect_whole, crate::proofs::Froms::tables_counted), unfolding(crate::specs::Grammar::items, crate::specs::Behind::behind_items))]
 pub(crate) fn subselect<'a>(
     alloc: Global,
     tokens: &'a [Token],
@@ -351,7 +339,7 @@ pub(crate) fn subselect<'a>(
 }
 
 /// `values ")" [AS] name "(" names ")"`, behind VALUES.
-#[tactic(auto, using(crate::proofs::Bracketed::values_source_at_0, crate::proofs::Bracketed::values_source_at_1, crate::proofs::Bracketed::values_source_at_2, crate::proofs::Bracketed::values_source_at_3, crate::proofs::Bracketed::values_source_at_4), unfolding(crate::specs::Grammar::tuples, crate::specs::Grammar::names, crate::specs::Behind::behind_tuples))]
+#[tactic(auto, using(crate::proofs::Bracketed::values_source_rows_failed, crate::proofs::Bracketed::values_source_no_close, crate::proofs::Bracketed::values_source_alias_failed, crate::proofs::Bracketed::values_source_columns_failed, crate::proofs::Bracketed::values_source_whole), unfolding(crate::specs::Grammar::tuples, crate::specs::Grammar::names, crate::specs::Behind::behind_tuples))]
 fn values_source<'a>(alloc: Global, tokens: &'a [Token]) -> Read<'a, Source>
     ensures reads { Reads values_source any tokens.now (seen result) }
     ensures count { IfOk result (λ part. sources_of part.value ≡ 1) }
@@ -387,7 +375,7 @@ fn values_source<'a>(alloc: Global, tokens: &'a [Token]) -> Read<'a, Source>
 }
 
 /// `subselect ")" [AS] name`, behind SELECT.
-#[tactic(auto, using(crate::proofs::Bracketed::query_source_at_0, crate::proofs::Bracketed::query_source_at_1, crate::proofs::Bracketed::query_source_at_2, crate::proofs::Bracketed::query_source_at_3))]
+#[tactic(auto, using(crate::proofs::Bracketed::query_source_query_failed, crate::proofs::Bracketed::query_source_no_close, crate::proofs::Bracketed::query_source_alias_failed, crate::proofs::Bracketed::query_source_whole))]
 fn query_source<'a>(alloc: Global, tokens: &'a [Token], before: usize) -> Read<'a, Source>
     requires { before ≤ 8 }
     ensures reads { Reads (query_source before) any tokens.now (seen result) }

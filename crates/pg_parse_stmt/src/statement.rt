@@ -7,7 +7,7 @@ ghost use Rattle.pg_parse_stmt.specs.Grammar.{begin, committed, isolation, trans
 ghost use Rattle.pg_parse_stmt.specs.declared.tree.StmtTree.TheVariants as stmt;
 
 use crate::create::{create_index, create_table};
-use crate::front::{Read, accept_sign, accept_word};
+use crate::front::Read;
 use crate::insert::insert;
 use crate::merge::merge;
 use crate::select::select;
@@ -16,6 +16,7 @@ use crate::update::{delete, update};
 use crate::word::{Lead, expect};
 use pg_grammar::{Fault, Part, whole};
 use pg_lexer::{Keyword, Sign, Token};
+use pg_parse_expr::{accept_sign, accept_word};
 use std::alloc::Global;
 
 /// `[WORK | TRANSACTION]`, behind the first word of a statement.
@@ -36,7 +37,7 @@ fn transaction(tokens: &[Token], tree: StmtTree) -> Read<'_, StmtTree>
 }
 
 /// `LEVEL READ COMMITTED`, behind ISOLATION.
-#[tactic(auto, using(crate::proofs::Statements::committed_at_0, crate::proofs::Statements::committed_at_1, crate::proofs::Statements::committed_at_2, crate::proofs::Statements::committed_at_3))]
+#[tactic(auto, using(crate::proofs::Statements::committed_no_level, crate::proofs::Statements::committed_no_read, crate::proofs::Statements::committed_no_word, crate::proofs::Statements::committed_whole))]
 fn committed(tokens: &[Token], tree: StmtTree) -> Read<'_, StmtTree>
     ensures { Reads (committed tree) any tokens.now (seen result) }
 {

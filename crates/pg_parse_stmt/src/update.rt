@@ -7,7 +7,7 @@ ghost use Rattle.pg_parse_stmt.specs.Behind.{behind_from_list, behind_using_list
 ghost use Rattle.pg_parse_stmt.specs.Forms.{word, or_else};
 ghost use Rattle.pg_parse_stmt.specs.Grammar.{from, update, delete};
 
-use crate::front::{Read, accept_word};
+use crate::front::Read;
 use crate::list::list;
 use crate::select::returning;
 use crate::source::{condition, sources, table_ref};
@@ -15,6 +15,7 @@ use crate::tree::{Assignment, Delete, Sources, Update};
 use pg_grammar::{Fault, Part};
 use pg_lexer::{Keyword, Token};
 use pg_lists::Items;
+use pg_parse_expr::accept_word;
 use std::alloc::Global;
 
 /// `[FROM from]`
@@ -52,7 +53,7 @@ fn using_list<'a>(alloc: Global, tokens: &'a [Token]) -> Read<'a, Sources>
 }
 
 /// `name [[AS] name] SET sets [FROM from] [WHERE expr] [returning]`, behind UPDATE.
-#[tactic(auto, using(crate::proofs::Updates::update_at_0, crate::proofs::Updates::update_at_1, crate::proofs::Updates::update_at_2, crate::proofs::Updates::update_at_3, crate::proofs::Updates::update_at_4, crate::proofs::Updates::update_at_5, crate::proofs::Updates::update_at_6), unfolding(crate::specs::Grammar::sets, crate::specs::Behind::behind_sets))]
+#[tactic(auto, using(crate::proofs::Updates::update_target_failed, crate::proofs::Updates::update_no_set, crate::proofs::Updates::update_sets_failed, crate::proofs::Updates::update_from_failed, crate::proofs::Updates::update_condition_failed, crate::proofs::Updates::update_returning_failed, crate::proofs::Updates::update_whole), unfolding(crate::specs::Grammar::sets, crate::specs::Behind::behind_sets))]
 pub(crate) fn update<'a>(alloc: Global, tokens: &'a [Token]) -> Read<'a, Update>
     ensures { Reads update behind_statement tokens.now (seen result) }
 {
@@ -97,7 +98,7 @@ pub(crate) fn update<'a>(alloc: Global, tokens: &'a [Token]) -> Read<'a, Update>
 }
 
 /// `FROM name [[AS] name] [USING from] [WHERE expr] [returning]`, behind DELETE.
-#[tactic(auto, using(crate::proofs::Updates::delete_at_0, crate::proofs::Updates::delete_at_1, crate::proofs::Updates::delete_at_2, crate::proofs::Updates::delete_at_3, crate::proofs::Updates::delete_at_4, crate::proofs::Updates::delete_at_5))]
+#[tactic(auto, using(crate::proofs::Updates::delete_no_from, crate::proofs::Updates::delete_target_failed, crate::proofs::Updates::delete_using_failed, crate::proofs::Updates::delete_condition_failed, crate::proofs::Updates::delete_returning_failed, crate::proofs::Updates::delete_whole))]
 pub(crate) fn delete<'a>(alloc: Global, tokens: &'a [Token]) -> Read<'a, Delete>
     ensures { Reads delete behind_statement tokens.now (seen result) }
 {

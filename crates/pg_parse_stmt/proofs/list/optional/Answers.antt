@@ -1,0 +1,7 @@
+use Rattle.pg_parse_stmt.proofs.Steps.{optional_failed}
+use Rattle.pg_parse_stmt.proofs.list.optional.Goals as goal
+
+pub returns-in-Err : goal.returns-in-Err
+returns-in-Err g c =
+    optional_failed c.args.word g.T.Listed.rule g.T.Listed.follows c.args.tokens.now c.in-Some.rest.now c.in-Err.fault
+    c.in-Some.ensures c.in-Err.ensures
