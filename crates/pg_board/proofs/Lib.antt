@@ -1,4 +1,4 @@
-pub mod Places
+pub mod Numbers
 pub mod Newest
 pub mod Steps
 pub mod Taken

@@ -1,7 +1,7 @@
 -- Queues when one line more is taken, and the session that is ready by the queues.
 use Rattle.std.proofs.Common.{◌≡◌, ◌≢◌, ℕ, zero, suc, ◌<◌, ◌≤◌, ◌+◌, ◌&&◌, ◌==◌, Bool, true, false, cond, List, [], ◌∷◌, length, take, filter, Option, Some, None, slice_get, slice_set, refl, subst, arith, ap, sym, ◌∙◌}
 use Rattle.std.specs.Prelude.{option_map}
-use Rattle.pg_model.specs.Worlds.{changed_at}
+use Rattle.pg_model.specs.Numbered.{changed}
 use Rattle.std.proofs.lemmas.List.{length-set}
 use Rattle.std.proofs.lemmas.List.Filters.{length-filter_more}
 use Rattle.std.proofs.lemmas.Option.{get_or_from_slice_get, slice_get_within}
@@ -13,7 +13,7 @@ use Rattle.pg_model.specs.declared.world.SessionView.{SessionView}
 use Rattle.pg_model.specs.declared.world.World.{World}
 use Rattle.pg_model.specs.Stepped.{continuing, is_idle, is_queued, lowest, or_else, ready}
 use Rattle.pg_board.specs.declared.queues.Queue.{Queue}
-use Rattle.pg_board.specs.Queues.{AreQueues, has_taken, places_of, queue_of, queued_more, ready_by, taken_of}
+use Rattle.pg_board.specs.Queues.{AreQueues, has_taken, numbers_of, queue_of, queued_more, ready_by, taken_of}
 
 filter_take_bound : {X : Type 0} (p : X → Bool) (xs : List X) (n : ℕ) → length (filter p (take n xs)) ≤ n
 filter_take_bound p xs zero = omega arith
@@ -61,7 +61,7 @@ taken_other script taken session line is other =
     let none : ◌≡◌ {A = ℕ} (cond (line.session == session) 1 0) 0 = grind (arith, nat_tests) in
     let same : taken_of script taken session ≡ taken_of script (taken + 1) session =
     let more = taken_more script taken session line is in omega (arith, more, none) in
-    ap (λ n. record { places = places_of session 0 script.lines; taken = n }) same
+    ap (λ n. record { numbers = numbers_of session 0 script.lines; taken = n }) same
 
 taken_own : (script : Script) (taken : ℕ) (line : Line) → slice_get script.lines taken ≡ Some line →
     taken_of script taken line.session + 1 ≡ taken_of script (taken + 1) line.session
@@ -73,7 +73,7 @@ taken_own script taken line is =
 pub queues_taken : (script : Script) (taken : ℕ) (queues : List Queue) (line : Line) (queue : Queue) →
     AreQueues script taken queues → slice_get script.lines taken ≡ Some line →
     slice_get queues line.session ≡ Some queue →
-    AreQueues script (taken + 1) (slice_set queues line.session (record { places = queue.places; taken = queue.taken + 1 }))
+    AreQueues script (taken + 1) (slice_set queues line.session (record { numbers = queue.numbers; taken = queue.taken + 1 }))
 queues_taken script taken queues line queue are is there =
     let within : line.session < length queues = slice_get_within queues line.session queue there in
     let both : Some queue ≡ Some (queue_of script taken line.session) = sym there ∙ are.each line.session within in
@@ -82,8 +82,8 @@ queues_taken script taken queues line queue are is there =
       sessions = length-set queues line.session _ ∙ are.sessions;
       each = replaced_each (queue_of script (taken + 1)) queues line.session _
           (λ i lt other. are.each i lt ∙ ap Some (taken_other script taken i line is other))
-          (ap (λ q. record { places = q.places; taken = q.taken + 1 }) own
-          ∙ ap (λ n. record { places = places_of line.session 0 script.lines; taken = n }) (taken_own script taken line is));
+          (ap (λ q. record { numbers = q.numbers; taken = q.taken + 1 }) own
+          ∙ ap (λ n. record { numbers = numbers_of line.session 0 script.lines; taken = n }) (taken_own script taken line is));
     }
 
 -- the queues when a line is taken of a session that is not there
@@ -105,20 +105,20 @@ queues_kept script taken queues line are is none =
 -- the queues when the next line is taken
 pub queues_next : (script : Script) (taken : ℕ) (queues : List Queue) (session : ℕ) → AreQueues script taken queues →
     option_map (λ line. line.session) (slice_get script.lines taken) ≡ Some session →
-    AreQueues script (taken + 1) (changed_at queued_more queues session)
+    AreQueues script (taken + 1) (changed queued_more queues session)
 queues_next script taken queues session are is = at (slice_get script.lines taken) refl is
   where
     at : (line : Option Line) → slice_get script.lines taken ≡ line →
         option_map (λ line. line.session) line ≡ Some session →
-        AreQueues script (taken + 1) (changed_at queued_more queues session)
+        AreQueues script (taken + 1) (changed queued_more queues session)
     at None there same = absurd (let e : None ≡ Some session = same in cc)
     at (Some line) there same =
         let own : line.session ≡ session = cc in
-        subst (λ s. AreQueues script (taken + 1) (changed_at queued_more queues s)) own (by_queue line there (slice_get queues line.session) refl)
+        subst (λ s. AreQueues script (taken + 1) (changed queued_more queues s)) own (by_queue line there (slice_get queues line.session) refl)
       where
         by_queue : (line : Line) → slice_get script.lines taken ≡ Some line →
             (queue : Option Queue) → slice_get queues line.session ≡ queue →
-            AreQueues script (taken + 1) (changed_at queued_more queues line.session)
+            AreQueues script (taken + 1) (changed queued_more queues line.session)
         by_queue line there None here = rw here (queues_kept script taken queues line are there here)
         by_queue line there (Some queue) here = rw here (queues_taken script taken queues line queue are there here)
 

@@ -1,11 +1,11 @@
 -- What a board shows, and how a step changes it.
-use Rattle.std.specs.Prelude.{ℕ, ◌≡◌, ◌++◌, ◌∷◌, ◌&&◌, [], List, Bool, false, not, nat_lt, length, Some, slice_get}
+use Rattle.std.specs.Prelude.{ℕ, ◌≡◌, ◌++◌, ◌∷◌, ◌&&◌, [], List, Bool, false, not, nat_lt, length, Some}
 use Rattle.std.specs.Option.{option_map_or}
 use Rattle.pg_model.specs.declared.script.Script.{Script}
 use Rattle.pg_model.specs.declared.journal.Entry.{Entry}
 use Rattle.pg_model.specs.declared.journal.EntryAct.{EntryAct}
 use Rattle.pg_model.specs.declared.world.World.{World}
-use Rattle.pg_model.specs.Worlds.{first_world}
+use Rattle.pg_model.specs.Worlds.{first_world, session_of}
 use Rattle.pg_model.specs.Effect.{effect}
 use Rattle.pg_model.specs.Moves.{moves_of}
 use Rattle.pg_model.specs.Stepped.{Schedule, first_of_list, first_schedule, is_closed, is_idle, is_queued}
@@ -19,13 +19,13 @@ pub record BoardView : Type 0 where
 
 -- the session has ended
 abbrev pub has_ended : BoardView → ℕ → Bool
-has_ended board session = option_map_or (λ x. is_closed x.progress) (slice_get board.world.sessions session) false
+has_ended board session = option_map_or (λ x. is_closed x.progress) (session_of board.world session) false
 
 -- the session is between statements without a queued line
 abbrev pub is_unqueued : BoardView → ℕ → Bool
 is_unqueued board session =
     option_map_or (λ x. is_idle x.progress && not (is_queued board.script board.schedule session x))
-    (slice_get board.world.sessions session) false
+    (session_of board.world session) false
 
 -- lines remain untaken, and the session is between statements without a queued line
 abbrev pub waits_for_lines : BoardView → ℕ → Bool

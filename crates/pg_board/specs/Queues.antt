@@ -1,20 +1,21 @@
--- Where the lines of a session stand in the script, and how many of them were taken.
-use Rattle.std.specs.Prelude.{ℕ, ◌≡◌, ◌+◌, ◌<◌, ◌==◌, ◌&&◌, Bool, if◌then◌else◌, nat_lt, List, [], ◌∷◌, length, take, Option, Some, slice_get}
+-- The numbers of a session's lines in the script, and how many of them were taken.
+use Rattle.std.specs.Prelude.{ℕ, ◌≡◌, ◌+◌, ◌<◌, ◌==◌, ◌&&◌, Bool, if◌then◌else◌, nat_lt, List, [], ◌∷◌, length, take, Option, Some}
 use Rattle.std.specs.Option.{option_map_or}
 use Rattle.pg_model.specs.declared.script.Line.{Line}
 use Rattle.pg_model.specs.declared.script.Script.{Script}
 use Rattle.pg_model.specs.declared.world.SessionView.{SessionView}
 use Rattle.pg_model.specs.declared.world.World.{World}
+use Rattle.pg_model.specs.Numbered.{numbered}
 use Rattle.pg_model.specs.Lines.{lines_of}
 use Rattle.pg_model.specs.Stepped.{continuing, is_idle, lowest, or_else}
 use Rattle.pg_board.specs.declared.queues.Queue.{Queue}
 
--- the places of the lines of a session, where the first of the lines has the place `first`
-abbrev pub places_of : ℕ → ℕ → List Line → List ℕ
-places_of session first [] = []
-places_of session first (line ∷ lines) =
-    if line.session == session then first ∷ places_of session (first + 1) lines
-    else places_of session (first + 1) lines
+-- the numbers of the lines that are given to a session, where the first of the lines has the number `first`
+abbrev pub numbers_of : ℕ → ℕ → List Line → List ℕ
+numbers_of session first [] = []
+numbers_of session first (line ∷ lines) =
+    if line.session == session then first ∷ numbers_of session (first + 1) lines
+    else numbers_of session (first + 1) lines
 
 -- how many lines of a session are among the first ones of the script
 abbrev pub taken_of : Script → ℕ → ℕ → ℕ
@@ -23,16 +24,16 @@ taken_of script taken session = length (lines_of session (take taken script.line
 -- the queue of a session, where that many lines of the script were taken
 abbrev pub queue_of : Script → ℕ → ℕ → Queue
 queue_of script taken session =
-    record { places = places_of session 0 script.lines; taken = taken_of script taken session }
+    record { numbers = numbers_of session 0 script.lines; taken = taken_of script taken session }
 
 -- each session of the script has its queue
 pub record AreQueues (script : Script) (taken : ℕ) (queues : List Queue) : Type 0 where
   pub sessions : length queues ≡ length script.sessions
-  pub each : (session : ℕ) → session < length queues → slice_get queues session ≡ Some (queue_of script taken session)
+  pub each : (session : ℕ) → session < length queues → numbered queues session ≡ Some (queue_of script taken session)
 
 -- more lines of the session were taken than it has answered
 abbrev pub has_taken : List Queue → ℕ → SessionView → Bool
-has_taken queues session x = nat_lt x.answered (option_map_or (λ queue. queue.taken) (slice_get queues session) 0)
+has_taken queues session x = nat_lt x.answered (option_map_or (λ queue. queue.taken) (numbered queues session) 0)
 
 -- the session that moves next without another line taken, as the queues show it
 abbrev pub ready_by : List Queue → World → Option ℕ → Option ℕ

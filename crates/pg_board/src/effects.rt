@@ -1,7 +1,9 @@
-ghost use Rattle.std.specs.Prelude.{◌≡◌, ◌<◌, ◌-◌, ◌^◌, IfOk, IfSome, OnErr, OnOk, length, slice_get, slice_set};
+ghost use Rattle.std.specs.Prelude.{◌≡◌, ◌<◌, ◌-◌, ◌^◌, IfOk, IfSome, OnErr, OnOk, Some, length};
 ghost use Rattle.std.specs.Option.{option_copied};
-ghost use Rattle.pg_board.specs.Queues.{places_of};
+ghost use Rattle.pg_board.specs.Queues.{numbers_of};
 ghost use Rattle.pg_board.specs.Room.{HasRoom, HasRoomIn};
+ghost use Rattle.pg_model.specs.Numbered.{changed_from_one, numbered};
+ghost use Rattle.pg_model.specs.Worlds.{session_of};
 ghost use Rattle.pg_model.specs.Effect.{act_effect, at_session, closed, committed, effect, found, inserted, placed, placed_values, proposed, replied, snapped, settled, waiting_values, with_running};
 
 use crate::queues::{Queue, line_in};
@@ -53,7 +55,7 @@ fn take_up(world: &mut World, session: u32, number: u64)
 /// The line has its reply.
 fn answer(world: &mut World, session: u32)
     requires session { session < length world.old.sessions }
-    requires room { (x : _) → slice_get world.old.sessions session ≡ Some x → x.answered < 2 ^ 64 - 1 }
+    requires room { (x : _) → session_of world.old session ≡ Some x → x.answered < 2 ^ 64 - 1 }
     ensures { world.new ≡ at_session world.old session (λ x. replied world.old session x) }
 {
     let x = world.sessions.item_mut(session as usize);
@@ -81,8 +83,10 @@ fn commit(world: &mut World, session: u32)
     };
     let place = world.transactions.commits + 1;
     world.transactions.commits = place;
-    let before = number.saturating_sub(1) as usize;
-    if let Some(transaction) = world.transactions.list.get_mut(before) {
+    let Some(before) = number.checked_sub(1) else {
+        return;
+    };
+    if let Some(transaction) = world.transactions.list.get_mut(before as usize) {
         transaction.status = Status::Committed(place);
     }
 }
@@ -99,7 +103,10 @@ fn copy_proposed(
         return Ok(Items::new(alloc));
     };
     let Statement::Insert { rows, .. } = &line.statement;
-    match rows.get(running.candidate.saturating_sub(1) as usize) {
+    let Some(before) = running.candidate.checked_sub(1) else {
+        return Ok(Items::new(alloc));
+    };
+    match rows.get(before as usize) {
         Some(row) => row.try_copy(alloc),
         None => Ok(Items::new(alloc)),
     }
@@ -180,9 +187,12 @@ fn settle(alloc: Global, x: &mut SessionView) -> Values
 /// The row of a table gets these versions.
 #[tactic(auto, using(pg_lists::proofs::Lists::slice_set_past))]
 fn store(view: &mut TableView, row: u64, versions: Vec<Version>)
-    ensures { view.new ≡ record { rows = slice_set view.old.rows (row - 1) (record { versions = versions.items }) } }
+    ensures { view.new ≡ record { rows = changed_from_one (λ old. record { versions = versions.items }) view.old.rows row } }
 {
-    if let Some(stored) = view.rows.get_mut(row.saturating_sub(1) as usize) {
+    let Some(before) = row.checked_sub(1) else {
+        return;
+    };
+    if let Some(stored) = view.rows.get_mut(before as usize) {
         stored.versions = Items::from_vec(versions);
     }
 }
@@ -196,7 +206,7 @@ fn insert(
     row: u64,
 ) -> Result<(), AllocError>
     requires session { session < length world.old.sessions }
-    requires room { (x running : _) → slice_get world.old.sessions session ≡ Some x → x.progress ≡ Progress.Inside running → running.acts < running.candidate }
+    requires room { (x running : _) → session_of world.old session ≡ Some x → x.progress ≡ Progress.Inside running → running.acts < running.candidate }
     ensures ok { OnOk result (world.new ≡ at_session world.old session (λ x. inserted world.old session x table row)) }
     ensures err { OnErr result (world.new ≡ world.old) }
 {
@@ -226,7 +236,7 @@ pub fn perform(
 ) -> Result<(), AllocError>
     requires session { session < length world.old.sessions }
     requires room { HasRoom world.old act.now }
-    requires room_in { (x : _) → slice_get world.old.sessions session ≡ Some x → HasRoomIn x act.now }
+    requires room_in { (x : _) → session_of world.old session ≡ Some x → HasRoomIn x act.now }
     ensures ok { OnOk result (world.new ≡ at_session world.old session (λ x. act_effect world.old session (option_copied line.entry) x act.now)) }
     ensures err { OnErr result (world.new ≡ world.old) }
 {
@@ -255,10 +265,10 @@ pub fn perform_next(
     act: &EntryAct,
 ) -> Result<(), AllocError>
     requires session { session < length world.old.sessions }
-    requires queue { IfSome (slice_get queues.now session) (λ queue. queue.places ≡ places_of session 0 script.now.lines) }
+    requires queue { IfSome (numbered queues.now session) (λ queue. queue.numbers ≡ numbers_of session 0 script.now.lines) }
     requires there { session < length queues.now }
     requires room { HasRoom world.old act.now }
-    requires room_in { (x : _) → slice_get world.old.sessions session ≡ Some x → HasRoomIn x act.now }
+    requires room_in { (x : _) → session_of world.old session ≡ Some x → HasRoomIn x act.now }
     ensures ok { OnOk result (world.new ≡ effect script.now world.old (record { session = session; act = act.now })) }
     ensures err { OnErr result (world.new ≡ world.old) }
 {

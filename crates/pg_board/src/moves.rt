@@ -1,5 +1,6 @@
-ghost use Rattle.std.specs.Prelude.{◌≡◌, ◌<◌, length, slice_get};
+ghost use Rattle.std.specs.Prelude.{◌≡◌, ◌<◌, length};
 ghost use Rattle.std.specs.Option.{option_copied};
+ghost use Rattle.pg_model.specs.Worlds.{table_of};
 ghost use Rattle.pg_model.specs.Moves.{ending_moves, placing_moves, session_moves, statement_moves};
 ghost use Rattle.pg_model.specs.Stepped.{first_of_list};
 
@@ -64,7 +65,7 @@ fn ending_act(alloc: Global, x: &SessionView, tag: Tag) -> EntryAct
 }
 
 fn placing_act(world: &World, table: u32) -> Option<EntryAct>
-    ensures { result ≡ first_of_list (placing_moves table (slice_get world.now.tables table)) }
+    ensures { result ≡ first_of_list (placing_moves table (table_of world.now table)) }
 {
     let view = world.tables.get(table as usize)?;
     Some(EntryAct::Placed {

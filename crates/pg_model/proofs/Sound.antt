@@ -1,5 +1,5 @@
 -- The world after setup is sound, and each permitted entry keeps it so.
-use Rattle.std.proofs.Common.{◌≡◌, ◌<◌, ◌≤◌, ◌+◌, ℕ, ◌&&◌, List, length, Option, Some, None, slice_get, slice_set, refl, sym, ap, ◌∙◌, subst, arith, length-set, length-append, nat_le, leb-true, ◌==◌, mul-le-mul}
+use Rattle.std.proofs.Common.{◌≡◌, ◌<◌, ◌≤◌, ◌+◌, ℕ, zero, suc, ◌&&◌, List, length, Option, Some, None, slice_get, slice_set, refl, sym, ap, ◌∙◌, subst, arith, length-set, length-append, nat_le, leb-true, ◌==◌, mul-le-mul}
 use Rattle.std.proofs.lemmas.Bool.{and_parts}
 use Rattle.std.proofs.lemmas.List.{length-map}
 use Rattle.std.proofs.lemmas.List.Sums.{sum_by-le}
@@ -23,20 +23,27 @@ use Rattle.pg_model.specs.Lines.{lines_of, line_at}
 use Rattle.pg_model.specs.Names.{are_distinct}
 use Rattle.pg_model.specs.Scripts.{most_sessions, is_line}
 use Rattle.pg_values.specs.declared.value.Value.{Value}
-use Rattle.pg_model.specs.Worlds.{fresh_session, empty_table, first_world, changed_at}
+use Rattle.pg_model.specs.Numbered.{changed, changed_from_one}
+use Rattle.pg_model.specs.Worlds.{fresh_session, empty_table, first_world}
 use Rattle.pg_model.specs.Moves.{IsPermitted}
 use Rattle.pg_model.specs.Effect.{snapped, found, proposed, placed, settled, inserted, committed, replied, closed, act_effect, effect}
 use Rattle.pg_model.specs.Sound.{statements_begun, statements_committed, begun_by, committed_by, AreCounted, CanStand, IsSound, IsBounded}
 use Rattle.pg_model.proofs.Lists.{each_set, all_each, sum_set, sum_most, sum_none, length_filtered, slice_get_none}
 use Rattle.pg_model.proofs.Needs.{IsAtLine, IsAtEnd, IsAtStage, Needs, move_of}
 
--- no item more or less by a change at a place
-pub length_changed : {X : Type 0} (change : X → X) (xs : List X) (i : ℕ) → length (changed_at change xs i) ≡ length xs
+-- no item more or less by a change
+pub length_changed : {X : Type 0} (change : X → X) (xs : List X) (i : ℕ) → length (changed change xs i) ≡ length xs
 length_changed {X = X} change xs i = at (slice_get xs i)
   where
     at : (o : Option X) → length (option_map_or (λ x. slice_set xs i (change x)) o xs) ≡ length xs
     at None = refl
     at (Some x) = length-set xs i (change x)
+
+-- wherever the numbers begin
+length_changed_from_one : {X : Type 0} (change : X → X) (xs : List X) (number : ℕ) →
+    length (changed_from_one change xs number) ≡ length xs
+length_changed_from_one change xs zero = refl
+length_changed_from_one change xs (suc before) = length_changed change xs before
 
 -- a world in which one session's record is replaced, and the transactions by as many as it begins and commits
 sound_step : (script : Script) (world new : World) (session : ℕ) (x y : SessionView) →
@@ -141,7 +148,7 @@ module _ (script : Script) (world : World) (session : ℕ) (x : SessionView) (is
       let b = ap statements_begun s.inside in
       let c = open_uncounted x.transaction x.progress number open_is in
       rw open_is (sound_step script world _ session x (record x { transaction = None }) is sound refl refl
-      (omega (arith, length_changed {X = Transaction})) (omega (arith, b, c)) (sound.standing session x is))
+      (omega (arith, length_changed_from_one {X = Transaction})) (omega (arith, b, c)) (sound.standing session x is))
 
   sound_replied : IsAtStage (line_at script session x) x Settled → x.transaction ≡ None →
       IsSound script (replied world session x)

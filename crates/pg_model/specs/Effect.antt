@@ -1,5 +1,5 @@
 -- What an entry makes of the world. All that is not named stays as it was.
-use Rattle.std.specs.Prelude.{ℕ, ◌+◌, ◌-◌, List, [], ◌∷◌, ◌++◌, length, Option, None, Some, slice_get, slice_set, unwrap_or}
+use Rattle.std.specs.Prelude.{ℕ, ◌+◌, List, [], ◌∷◌, ◌++◌, length, Option, None, Some, unwrap_or}
 use Rattle.std.specs.Option.{option_map_or}
 use Rattle.pg_values.specs.declared.value.Value.{Value}
 use Rattle.pg_model.specs.declared.script.Line.{Line}
@@ -8,7 +8,9 @@ use Rattle.pg_model.specs.declared.journal.Entry.{Entry}
 use Rattle.pg_model.specs.declared.journal.EntryAct.{EntryAct}
 use Rattle.pg_model.specs.declared.journal.EntryAct.TheVariants as act
 use Rattle.pg_model.specs.declared.world.Version.{Version}
+use Rattle.pg_model.specs.declared.world.Row.{Row}
 use Rattle.pg_model.specs.declared.world.TableView.{TableView}
+use Rattle.pg_model.specs.declared.world.Transaction.{Transaction}
 use Rattle.pg_model.specs.declared.world.Transactions.{Transactions}
 use Rattle.pg_model.specs.declared.world.Status.TheVariants as status
 use Rattle.pg_model.specs.declared.world.SessionView.{SessionView}
@@ -19,8 +21,9 @@ use Rattle.pg_model.specs.declared.world.Stage.{Stage}
 use Rattle.pg_model.specs.declared.world.Stage.TheVariants.{Settled, Found, Placed}
 use Rattle.pg_model.specs.declared.world.World.{World}
 use Rattle.pg_model.specs.Lines.{line_at}
-use Rattle.pg_model.specs.Candidates.{candidates_of}
-use Rattle.pg_model.specs.Worlds.{changed_at, with_session, with_table}
+use Rattle.pg_model.specs.Candidates.{candidate_of}
+use Rattle.pg_model.specs.Numbered.{changed_from_one}
+use Rattle.pg_model.specs.Worlds.{session_of, with_session, with_table}
 
 -- the session with its statement at another place; one that is in no statement stays as it is
 abbrev pub with_running : (Running → Running) → SessionView → Progress → SessionView
@@ -50,7 +53,7 @@ found world session x number =
 -- the values that the candidate taken up last proposes
 abbrev pub proposed : Option Line → Progress → List Value
 proposed (Some line) (Inside running) =
-    unwrap_or (slice_get (candidates_of line.statement) (running.candidate - 1)) []
+    unwrap_or (candidate_of line.statement running.candidate) []
 proposed (Some line) Idle = []
 proposed (Some line) Closed = []
 proposed None progress = []
@@ -89,22 +92,26 @@ inserted world session x table row =
     first_version =
         record { values = Some (waiting_values x.progress); writer = unwrap_or x.transaction 0; command = x.command }
 
+    begun : Row → Row
+    begun old = record { versions = first_version ∷ [] }
+
     stored : TableView → TableView
-    stored view = record { rows = slice_set view.rows (row - 1) (record { versions = first_version ∷ [] }) }
+    stored view = record { rows = changed_from_one begun view.rows row }
 
 -- Committed: the transaction takes the next place in the commit order
 abbrev pub committed : World → ℕ → SessionView → World
 committed world session x =
     with_session (record world { transactions = ended x.transaction }) session (record x { transaction = None })
   where
+    next : ℕ
+    next = world.transactions.commits + 1
+
+    given : Transaction → Transaction
+    given transaction = record transaction { status = status.Committed next }
+
     ended : Option ℕ → Transactions
     ended None = world.transactions
-    ended (Some number) =
-        record {
-          list = changed_at (λ t. record t { status = status.Committed (world.transactions.commits + 1) })
-              world.transactions.list (number - 1);
-          commits = world.transactions.commits + 1;
-        }
+    ended (Some number) = record { list = changed_from_one given world.transactions.list number; commits = next }
 
 -- Replied: the line has its reply, and the session stands between statements
 abbrev pub replied : World → ℕ → SessionView → World
@@ -126,7 +133,7 @@ act_effect world session line x act.Closed = closed world session x
 
 -- the world that `make` gives for a session as it stands; one that is not there changes nothing
 abbrev pub at_session : World → ℕ → (SessionView → World) → World
-at_session world session make = option_map_or make (slice_get world.sessions session) world
+at_session world session make = option_map_or make (session_of world session) world
 
 -- the world that an entry leaves
 abbrev pub effect : Script → World → Entry → World

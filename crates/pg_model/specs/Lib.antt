@@ -1,4 +1,5 @@
 pub mod Names
+pub mod Numbered
 pub mod Scripts
 pub mod Lines
 pub mod Rows

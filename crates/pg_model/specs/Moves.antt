@@ -1,5 +1,5 @@
 -- The acts that Read Committed permits a session next.
-use Rattle.std.specs.Prelude.{ℕ, ◌+◌, List, [], ◌∷◌, length, Contains, Option, None, Some, slice_get}
+use Rattle.std.specs.Prelude.{ℕ, ◌+◌, List, [], ◌∷◌, length, Contains, Option, None, Some}
 use Rattle.pg_values.specs.declared.value.Value.{Value}
 use Rattle.pg_model.specs.declared.script.Line.{Line}
 use Rattle.pg_model.specs.declared.script.Script.{Script}
@@ -18,8 +18,9 @@ use Rattle.pg_model.specs.declared.world.Progress.TheVariants as at
 use Rattle.pg_model.specs.declared.world.Stage.{Stage}
 use Rattle.pg_model.specs.declared.world.Stage.TheVariants as stage
 use Rattle.pg_model.specs.declared.world.World.{World}
+use Rattle.pg_model.specs.Worlds.{session_of, table_of}
 use Rattle.pg_model.specs.Lines.{line_at}
-use Rattle.pg_model.specs.Candidates.{candidates_of}
+use Rattle.pg_model.specs.Candidates.{next_candidate}
 
 -- a statement outside a block commits its transaction, and then it is answered
 abbrev pub ending_moves : Option ℕ → Tag → List EntryAct
@@ -43,7 +44,7 @@ placing_moves table None = []
 -- a candidate of an INSERT is placed, and what is placed is inserted
 abbrev pub insert_moves : World → ℕ → Stage → List EntryAct
 insert_moves world table stage.Settled = []
-insert_moves world table stage.Found = placing_moves table (slice_get world.tables table)
+insert_moves world table stage.Found = placing_moves table (table_of world table)
 insert_moves world table (stage.Placed row values) = Inserted table row ∷ []
 
 abbrev pub action_moves : World → Statement → Stage → List EntryAct
@@ -52,7 +53,7 @@ action_moves world (OfInsert table rows) stage = insert_moves world table stage
 -- a statement that has its snapshot goes on to its next candidate, or with the one taken up
 abbrev pub statement_moves : World → SessionView → Running → Statement → Stage → List EntryAct
 statement_moves world x running statement stage.Settled =
-    candidate_moves x running statement (slice_get (candidates_of statement) running.candidate)
+    candidate_moves x running statement (next_candidate statement running.candidate)
 statement_moves world x running statement stage.Found = action_moves world statement stage.Found
 statement_moves world x running statement (stage.Placed row values) =
     action_moves world statement (stage.Placed row values)
@@ -73,7 +74,7 @@ moves_in script world session None = []
 
 -- the acts that are permitted to a session next; one that is not the script's has none
 abbrev pub moves_of : Script → World → ℕ → List EntryAct
-moves_of script world session = moves_in script world session (slice_get world.sessions session)
+moves_of script world session = moves_in script world session (session_of world session)
 
 -- the entry is a move that Read Committed permits its session
 abbrev pub IsPermitted : Script → World → Entry → Type 0

@@ -1,5 +1,5 @@
 -- The text of a run, and the text of a journal.
-use Rattle.std.specs.Prelude.{ℕ, ◌==◌, true, false, if◌then◌else◌, List, [], ◌∷◌, ◌++◌, codes, decimal, flat_map, map, slice_index_or}
+use Rattle.std.specs.Prelude.{ℕ, ◌==◌, true, false, if◌then◌else◌, List, [], ◌∷◌, ◌++◌, codes, decimal, flat_map, map, unwrap_or}
 use Rattle.std.specs.Fmt.{signed_decimal}
 use Rattle.std.specs.List.{join_with_byte}
 use Rattle.pg_values.specs.declared.value.Value.{Value}
@@ -12,6 +12,7 @@ use Rattle.pg_model.specs.declared.journal.Reply.{Reply}
 use Rattle.pg_model.specs.declared.journal.Entry.{Entry}
 use Rattle.pg_model.specs.declared.journal.EntryAct.{EntryAct}
 use Rattle.pg_model.specs.declared.journal.EntryAct.TheVariants.{Snapped, Found, Placed, Inserted, Committed, Replied, Closed}
+use Rattle.pg_model.specs.Numbered.{numbered}
 use Rattle.pg_model.specs.Rows.{tables_of}
 use Rattle.pg_model.specs.Journals.{world_after}
 
@@ -39,9 +40,9 @@ row_text values = join_with_byte 124 (map value_text values)
 abbrev pub tag_text : Tag → List ℕ
 tag_text (Insert rows) = codes "INSERT 0 " ++ decimal rows
 
--- the name of the item at a place of a list of names
-abbrev pub name_at : List (List ℕ) → ℕ → List ℕ
-name_at names place = slice_index_or names place []
+-- the name of the session or table of that number
+abbrev pub name_of : List (List ℕ) → ℕ → List ℕ
+name_of names number = unwrap_or (numbered names number) []
 
 -- a reply: `name> VALUES` for each returned row, then `name: TAG`
 abbrev pub reply_text : List ℕ → Reply → List ℕ
@@ -60,7 +61,7 @@ act_text name Committed = []
 act_text name Closed = []
 
 abbrev pub entry_text : Script → Entry → List ℕ
-entry_text script entry = act_text (name_at script.sessions entry.session) entry.act
+entry_text script entry = act_text (name_of script.sessions entry.session) entry.act
 
 -- a table: `table NAME`, then a line for each row
 abbrev pub table_text : TableShape → List (List Value) → List ℕ
@@ -80,9 +81,9 @@ run_text script journal tables = flat_map (entry_text script) journal ++ tables_
 abbrev pub printed : Script → List Entry → List ℕ
 printed script journal = run_text script journal (tables_of (world_after script journal))
 
--- the name of the table at a place of the catalogue
+-- the name of the table of that number
 abbrev pub table_name : Script → ℕ → List ℕ
-table_name script table = name_at (map (λ shape. shape.name) script.catalogue) table
+table_name script table = name_of (map (λ shape. shape.name) script.catalogue) table
 
 -- what an act reads as in the text of a journal
 abbrev pub act_words : Script → EntryAct → List ℕ
@@ -97,7 +98,7 @@ act_words script Closed = codes "closed"
 
 -- a line of a journal: the session's name and what it did
 abbrev pub entry_line : Script → Entry → List ℕ
-entry_line script entry = ended (name_at script.sessions entry.session ++ codes " " ++ act_words script entry.act)
+entry_line script entry = ended (name_of script.sessions entry.session ++ codes " " ++ act_words script entry.act)
 
 -- the text of a journal: a line for each entry
 abbrev pub journal_text : Script → List Entry → List ℕ

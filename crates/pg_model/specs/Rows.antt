@@ -1,5 +1,5 @@
 -- Transactions, and what is committed of a row and of a table.
-use Rattle.std.specs.Prelude.{ℕ, zero, suc, Bool, true, false, List, [], ◌∷◌, filter, filter_map, map, Option, None, Some, option_map, option_and_then, slice_get}
+use Rattle.std.specs.Prelude.{ℕ, zero, suc, Bool, true, false, List, [], ◌∷◌, filter, filter_map, map, Option, None, Some, option_map, option_and_then}
 use Rattle.pg_values.specs.declared.value.Value.{Value}
 use Rattle.pg_model.specs.declared.world.Version.{Version}
 use Rattle.pg_model.specs.declared.world.Row.{Row}
@@ -8,12 +8,13 @@ use Rattle.pg_model.specs.declared.world.Transaction.{Transaction}
 use Rattle.pg_model.specs.declared.world.Status.{Status}
 use Rattle.pg_model.specs.declared.world.Status.TheVariants.{Running, Committed}
 use Rattle.pg_model.specs.declared.world.World.{World}
+use Rattle.pg_model.specs.Numbered.{numbered_from_one}
 
 -- the status of the transaction of that number; what setup stores is written by transaction 0,
 -- committed before all others
 abbrev pub status_of : List Transaction → ℕ → Option Status
 status_of transactions zero = Some (Committed 0)
-status_of transactions (suc before) = option_map (λ t. t.status) (slice_get transactions before)
+status_of transactions (suc before) = option_map (λ t. t.status) (numbered_from_one transactions (suc before))
 
 abbrev pub is_committed_status : Option Status → Bool
 is_committed_status (Some (Committed place)) = true

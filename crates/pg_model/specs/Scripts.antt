@@ -1,5 +1,5 @@
 -- What holds of each script that was read.
-use Rattle.std.specs.Prelude.{ℕ, Bool, ◌&&◌, ◌==◌, nat_le, nat_lt, List, length, Option, None, Some, false, slice_get}
+use Rattle.std.specs.Prelude.{ℕ, Bool, ◌&&◌, ◌==◌, nat_le, nat_lt, List, length, Option, None, Some, false}
 use Rattle.std.specs.List.{list_all}
 use Rattle.pg_values.specs.declared.value.Value.{Value}
 use Rattle.pg_model.specs.declared.catalogue.TableShape.{TableShape}
@@ -7,6 +7,7 @@ use Rattle.pg_model.specs.declared.script.Statement.{Statement}
 use Rattle.pg_model.specs.declared.script.Statement.TheVariants.{Insert}
 use Rattle.pg_model.specs.declared.script.Line.{Line}
 use Rattle.pg_model.specs.Names.{are_distinct}
+use Rattle.pg_model.specs.Numbered.{numbered}
 
 -- a script names at most this many sessions
 abbrev pub most_sessions : ℕ
@@ -23,7 +24,7 @@ fits rows (Some shape) = list_all (λ row. length row == length shape.columns) r
 
 -- the statement names a table that exists, and its rows fit there
 abbrev pub is_statement : List TableShape → Statement → Bool
-is_statement catalogue (Insert table rows) = fits rows (slice_get catalogue table)
+is_statement catalogue (Insert table rows) = fits rows (numbered catalogue table)
 
 -- the line names a session that exists, and its statement fits the catalogue
 abbrev pub is_line : ℕ → List TableShape → Line → Bool

@@ -1,6 +1,6 @@
 -- What holds of each world that a legal journal leaves: how many transactions and commits there are,
 -- and where a session can stand.
-use Rattle.std.specs.Prelude.{ℕ, ◌≡◌, ◌≤◌, ◌<◌, ◌+◌, length, Option, None, Some, slice_get, sum_by}
+use Rattle.std.specs.Prelude.{ℕ, ◌≡◌, ◌≤◌, ◌<◌, ◌+◌, length, Option, None, Some, sum_by}
 use Rattle.pg_model.specs.declared.script.Script.{Script}
 use Rattle.pg_model.specs.declared.world.SessionView.{SessionView}
 use Rattle.pg_model.specs.declared.world.Running.{Running}
@@ -10,6 +10,7 @@ use Rattle.pg_model.specs.declared.world.Stage.{Stage}
 use Rattle.pg_model.specs.declared.world.Stage.TheVariants.{Settled, Found, Placed}
 use Rattle.pg_model.specs.declared.world.World.{World}
 use Rattle.pg_model.specs.Lines.{lines_of}
+use Rattle.pg_model.specs.Worlds.{session_of}
 
 -- 1 inside a statement, and 0 elsewhere
 abbrev pub statements_begun : Progress → ℕ
@@ -50,7 +51,7 @@ pub record IsSound (script : Script) (world : World) : Type 0 where
   pub sessions : length world.sessions ≡ length script.sessions
   pub begun : length world.transactions.list ≡ sum_by begun_by world.sessions
   pub committed : world.transactions.commits ≡ sum_by committed_by world.sessions
-  pub standing : (session : ℕ) (x : SessionView) → slice_get world.sessions session ≡ Some x →
+  pub standing : (session : ℕ) (x : SessionView) → session_of world session ≡ Some x →
       CanStand (length (lines_of session script.lines)) x.answered x.progress
 
 -- no more transactions than 32 sessions with 1048576 lines each can begin

@@ -1,5 +1,5 @@
 -- The order in which the sessions of a stepped script move.
-use Rattle.std.specs.Prelude.{ℕ, ◌≡◌, ◌+◌, ◌&&◌, Bool, true, false, if◌then◌else◌, nat_lt, List, [], ◌∷◌, drop, take, length, Option, None, Some, is_some, option_map, slice_get}
+use Rattle.std.specs.Prelude.{ℕ, ◌≡◌, ◌+◌, ◌&&◌, Bool, true, false, if◌then◌else◌, nat_lt, List, [], ◌∷◌, drop, take, length, Option, None, Some, is_some, option_map}
 use Rattle.pg_model.specs.declared.script.Line.{Line}
 use Rattle.pg_model.specs.declared.script.Script.{Script}
 use Rattle.pg_model.specs.declared.journal.Entry.{Entry}
@@ -8,7 +8,7 @@ use Rattle.pg_model.specs.declared.world.Progress.{Progress}
 use Rattle.pg_model.specs.declared.world.Progress.TheVariants.{Idle, Inside, Closed}
 use Rattle.pg_model.specs.declared.world.World.{World}
 use Rattle.pg_model.specs.Lines.{lines_of}
-use Rattle.pg_model.specs.Worlds.{first_world}
+use Rattle.pg_model.specs.Worlds.{first_world, session_of}
 use Rattle.pg_model.specs.Moves.{moves_of}
 use Rattle.pg_model.specs.Effect.{effect}
 
@@ -55,7 +55,7 @@ or_else None other = other
 -- the session that moved last, where it is inside a statement
 abbrev pub continuing : World → Option ℕ → Option ℕ
 continuing world None = None
-continuing world (Some session) = if_inside (option_map (λ x. is_inside x.progress) (slice_get world.sessions session))
+continuing world (Some session) = if_inside (option_map (λ x. is_inside x.progress) (session_of world session))
   where
     if_inside : Option Bool → Option ℕ
     if_inside (Some true) = Some session

@@ -1,11 +1,11 @@
--- The world after setup, and a world with one part replaced.
-use Rattle.std.specs.Prelude.{ℕ, List, [], map, None, slice_get, slice_set}
-use Rattle.std.specs.Option.{option_map_or}
+-- The world after setup, its parts by number, and a world with one part replaced.
+use Rattle.std.specs.Prelude.{ℕ, [], map, Option, None}
 use Rattle.pg_model.specs.declared.script.Script.{Script}
 use Rattle.pg_model.specs.declared.world.TableView.{TableView}
 use Rattle.pg_model.specs.declared.world.SessionView.{SessionView}
 use Rattle.pg_model.specs.declared.world.Progress.TheVariants.{Idle}
 use Rattle.pg_model.specs.declared.world.World.{World}
+use Rattle.pg_model.specs.Numbered.{numbered, replaced, changed}
 
 -- a table of which no row number was drawn
 abbrev pub empty_table : TableView
@@ -24,15 +24,18 @@ first_world script =
       sessions = map (λ name. fresh_session) script.sessions;
     }
 
--- the list with the item at a place replaced by what `change` makes of it
-abbrev pub changed_at : {X : Type 0} → (X → X) → List X → ℕ → List X
-changed_at change items place =
-    option_map_or (λ item. slice_set items place (change item)) (slice_get items place) items
+-- the session of that number, if there is one
+abbrev pub session_of : World → ℕ → Option SessionView
+session_of world session = numbered world.sessions session
+
+-- the table of that number, if there is one
+abbrev pub table_of : World → ℕ → Option TableView
+table_of world table = numbered world.tables table
 
 -- the world in which a session stands as given
 abbrev pub with_session : World → ℕ → SessionView → World
-with_session world session x = record world { sessions = slice_set world.sessions session x }
+with_session world session x = record world { sessions = replaced world.sessions session x }
 
 -- the world in which a table is as `change` makes it
 abbrev pub with_table : World → ℕ → (TableView → TableView) → World
-with_table world table change = record world { tables = changed_at change world.tables table }
+with_table world table change = record world { tables = changed change world.tables table }

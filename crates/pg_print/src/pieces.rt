@@ -1,7 +1,7 @@
 // The parts that the texts are made of; each function appends one.
 ghost use Rattle.std.specs.Prelude.{◌≡◌, ◌++◌, ◌∷◌, [], OnOk, decimal, drop, flat_map, map};
 ghost use Rattle.std.specs.Fmt.{signed_decimal};
-ghost use Rattle.pg_model.specs.Printed.{name_at, quoted, row_text, tag_text, value_text};
+ghost use Rattle.pg_model.specs.Printed.{name_of, quoted, row_text, tag_text, value_text};
 
 use itoa::Buffer;
 use pg_model::{Name, TableShape, Tag};
@@ -90,7 +90,7 @@ pub fn put_tag(out: &mut Vec<u8>, tag: Tag) -> Result<(), AllocError>
 
 /// The name of a session, which is empty where there is none of that number.
 pub fn session_name(names: &[Name], session: u32) -> &[u8]
-    ensures { result.now ≡ name_at names.now session }
+    ensures { result.now ≡ name_of names.now session }
 {
     match names.get(session as usize) {
         Some(name) => name.as_slice(),
@@ -100,7 +100,7 @@ pub fn session_name(names: &[Name], session: u32) -> &[u8]
 
 /// The name of a table, which is empty where there is none of that number.
 pub fn table_name(shapes: &[TableShape], table: u32) -> &[u8]
-    ensures { result.now ≡ name_at (map (λ shape. shape.name) shapes.now) table }
+    ensures { result.now ≡ name_of (map (λ shape. shape.name) shapes.now) table }
 {
     match shapes.get(table as usize) {
         Some(shape) => shape.name.as_slice(),
