@@ -16,12 +16,12 @@ ReadsFront before now most = (bytes : List ℕ) × (length bytes ≤ most) × Co
 
 -- a fact of the bytes, where the whole input was read
 abbrev pub IfAll : ReadAll → (List ℕ → Type 0) → Type 0
-IfAll (All bytes) P = P bytes.items
+IfAll (All bytes) P = P bytes
 IfAll _ P = ⊤
 
 -- a fact of the bytes, where the input is too long
 abbrev pub IfTooLong : ReadAll → (List ℕ → Type 0) → Type 0
-IfTooLong (TooLong bytes) P = P bytes.items
+IfTooLong (TooLong bytes) P = P bytes
 IfTooLong _ P = ⊤
 
 -- a fact, where no bytes are handed out

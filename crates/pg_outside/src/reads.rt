@@ -6,6 +6,7 @@ ghost use Rattle.pg_outside.specs.Reads.{IfAll, IfTooLong, OnLost, ReadsWhole, R
 
 use crate::copies::append_reserved;
 use crate::source::{Failed, Source};
+use pg_lists::Items;
 use std::alloc::{AllocError, Global};
 
 /// How many bytes one read asks for at most.
@@ -15,9 +16,9 @@ const BLOCK: usize = 65536;
 #[derive(Debug, Drop)]
 pub enum ReadAll {
     /// The bytes up to the end of the input, at most `limit`.
-    All(Vec<u8>),
+    All(Items<u8>),
     /// The first `limit + 1` bytes of a longer input.
-    TooLong(Vec<u8>),
+    TooLong(Items<u8>),
     /// The source has failed.
     Failed,
     /// Memory was refused.
@@ -45,12 +46,12 @@ pub fn read_all<S: Source>(alloc: Global, source: &mut S, limit: usize) -> ReadA
             return ReadAll::Memory;
         }
         match read_more(source, &mut block[..most], &mut bytes) {
-            Ok(0) => return ReadAll::All(bytes),
+            Ok(0) => return ReadAll::All(Items::from_vec(bytes)),
             Ok(_) => {}
             Err(_) => return ReadAll::Failed,
         }
     }
-    ReadAll::TooLong(bytes)
+    ReadAll::TooLong(Items::from_vec(bytes))
 }
 
 /// Reads at most a block of bytes, appends them to `bytes` and answers how many they were.

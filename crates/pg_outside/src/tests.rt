@@ -96,8 +96,8 @@ fn a_text_is_written_up_to_the_failing_write(rt: HostRuntime) -> Result<(), Fail
 /// What was read of a source, as a word and the bytes.
 fn parts(alloc: Global, read: ReadAll) -> (&'static str, Vec<u8>) {
     match read {
-        ReadAll::All(bytes) => ("all", bytes),
-        ReadAll::TooLong(bytes) => ("long", bytes),
+        ReadAll::All(bytes) => ("all", bytes.into_vec()),
+        ReadAll::TooLong(bytes) => ("long", bytes.into_vec()),
         ReadAll::Failed => ("failed", Vec::new(alloc)),
         ReadAll::Memory => ("memory", Vec::new(alloc)),
     }

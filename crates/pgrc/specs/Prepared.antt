@@ -24,7 +24,7 @@ pub record ReadsTo (before now : Option (List ℕ)) (script : Script) : Type 0 w
 -- a run of the script that was read, and the text of its journal
 pub record IsMade (before now : Option (List ℕ)) (run : Run) : Type 0 where
   pub made : IsRun before now run.script run.journal
-  pub text : run.text.items ≡ printed run.script run.journal
+  pub text : run.text ≡ printed run.script run.journal
 
 -- a refusal is of the bytes that were read
 abbrev pub IfRefused : {T : Type 0} → Option (List ℕ) → Option (List ℕ) → Result T Fault → Type 0
@@ -40,7 +40,7 @@ pub record IsRunOf (script : Script) (run : Run) : Type 0 where
   pub legal : IsLegal run.script run.journal
   pub complete : IsComplete run.script run.journal
   pub stepped : IsStepped run.script run.journal
-  pub text : run.text.items ≡ printed run.script run.journal
+  pub text : run.text ≡ printed run.script run.journal
 
 -- the status at which a fault ends a call
 abbrev pub status_at : Fault → Status

@@ -105,8 +105,8 @@ fn deliver<K: Sink, E: Sink>(run: Run, sink: &mut K, errors: &mut E) -> Report
     ensures status { (result.status ≡ Status.Done) ⊎ (result.status ≡ Status.WriteFault) }
     ensures script { result.script ≡ run.script }
     ensures journal { result.journal ≡ run.journal }
-    ensures done { result.status ≡ Status.Done → Appends (K.taken sink.old) (K.taken sink.new) run.text.items }
-    ensures cut { result.status ≡ Status.WriteFault → AppendsFront (K.taken sink.old) (K.taken sink.new) run.text.items }
+    ensures done { result.status ≡ Status.Done → Appends (K.taken sink.old) (K.taken sink.new) run.text }
+    ensures cut { result.status ≡ Status.WriteFault → AppendsFront (K.taken sink.old) (K.taken sink.new) run.text }
     ensures unwritable { result.status ≡ Status.WriteFault → Rose (K.faults sink.old) (K.faults sink.new) }
     ensures told { IsTold (E.taken errors.old) (E.taken errors.new) (E.faults errors.old) (E.faults errors.new) (status_text result.status) }
     ensures sink_later { K.faults sink.old ≤ K.faults sink.new }

@@ -8,6 +8,7 @@ ghost use Rattle.pgrc.specs.Prepared.{IfRefused, IsMade, IsRunOf, ReadsTo};
 use crate::read::{MOST_BYTES, read_script};
 use crate::replay::replay;
 use crate::script_fault::{Refusal, ScriptFault};
+use pg_lists::Items;
 use pg_model::{Journal, Script};
 use pg_outside::{ReadAll, Source, read_all};
 use pg_print::print;
@@ -18,7 +19,7 @@ use std::alloc::{AllocError, Global};
 pub struct Run {
     pub script: Script,
     pub journal: Journal,
-    pub text: Vec<u8>,
+    pub text: Items<u8>,
 }
 
 /// Why there is no run.
@@ -92,6 +93,6 @@ fn run_script(alloc: Global, script: Script) -> Result<Run, AllocError>
     Ok(Run {
         script,
         journal: finished.journal,
-        text,
+        text: Items::from_vec(text),
     })
 }
