@@ -5,7 +5,7 @@ use Rattle.pg_model.specs.declared.script.Line.{Line}
 use Rattle.pg_model.specs.declared.script.Script.{Script}
 use Rattle.pg_model.specs.declared.world.SessionView.{SessionView}
 use Rattle.pg_model.specs.declared.world.World.{World}
-use Rattle.pg_model.specs.Numbered.{numbered}
+use Rattle.pg_lists.specs.Numbered.{numbered}
 use Rattle.pg_model.specs.Lines.{lines_of}
 use Rattle.pg_model.specs.Stepped.{continuing, is_idle, lowest, or_else}
 use Rattle.pg_board.specs.declared.queues.Queue.{Queue}

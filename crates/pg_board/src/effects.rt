@@ -2,7 +2,7 @@ ghost use Rattle.std.specs.Prelude.{◌≡◌, ◌<◌, ◌-◌, ◌^◌, IfOk, 
 ghost use Rattle.std.specs.Option.{option_copied};
 ghost use Rattle.pg_board.specs.Queues.{numbers_of};
 ghost use Rattle.pg_board.specs.Room.{HasRoom, HasRoomIn};
-ghost use Rattle.pg_model.specs.Numbered.{changed_from_one, numbered};
+ghost use Rattle.pg_lists.specs.Numbered.{changed_from_one, numbered};
 ghost use Rattle.pg_model.specs.Worlds.{session_of};
 ghost use Rattle.pg_model.specs.Effect.{act_effect, at_session, closed, committed, effect, found, inserted, placed, placed_values, proposed, replied, snapped, settled, waiting_values, with_running};
 

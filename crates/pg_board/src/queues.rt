@@ -1,5 +1,5 @@
 ghost use Rattle.std.specs.Prelude.{◌≡◌, ◌<◌, ◌+◌, ◌-◌, ◌^◌, IfOk, IfSome, Some, length, option_map};
-ghost use Rattle.pg_model.specs.Numbered.{changed, numbered};
+ghost use Rattle.pg_lists.specs.Numbered.{changed, numbered};
 ghost use Rattle.pg_model.specs.Worlds.{session_of};
 ghost use Rattle.std.specs.Option.{option_copied};
 ghost use Rattle.pg_model.specs.Lines.{line_at};

@@ -1,5 +1,6 @@
 //! The laws of runs whose weight falls, as contracts.
-ghost use Rattle.std.specs.Prelude.{◌≡◌, ℕ, List, Option, Some, slice_get, slice_set};
+ghost use Rattle.std.specs.Prelude.{◌≡◌, ℕ, List, Option, Some};
+ghost use Rattle.pg_lists.specs.Numbered.{numbered, replaced};
 ghost use Rattle.pg_ending.specs.Weight.{IsLess};
 ghost use Rattle.pg_ending.specs.Runs.{Falls, Takes, IsRunOf};
 ghost use Rattle.pg_ending.specs.Totals.{numbers_at, totals};
@@ -18,7 +19,7 @@ pub fn run_is_one<S, E>()
 
 /// Where the numbers of one party fall and no other party changes, the sums over all parties fall.
 pub fn totals_fall<X>()
-    ensures { (fs : List (ℕ → X → ℕ)) (xs : List X) (party : ℕ) (x y : X) → slice_get xs party ≡ Some x →
+    ensures { (fs : List (ℕ → X → ℕ)) (xs : List X) (party : ℕ) (x y : X) → numbered xs party ≡ Some x →
         IsLess (numbers_at fs party y) (numbers_at fs party x) →
-        IsLess (totals fs (slice_set xs party y)) (totals fs xs) }
+        IsLess (totals fs (replaced xs party y)) (totals fs xs) }
 {}

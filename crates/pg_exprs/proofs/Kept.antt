@@ -195,8 +195,8 @@ text_or_null-kind (Some text) = inr refl
 pub kept : (tree : Tree) (shape : List (List (Option Kind))) (env : Environment) (k : Option Kind) (w : Value) →
     FitsShape env shape → kind_of tree shape ≡ Ok k → eval tree env ≡ Ok w → HasKind w k
 kept (literal value) shape env k w fits found made = along {v = value} {k = kind_of_value value} (cc) (cc) (inr refl)
-kept (column source place) shape env k w fits found made =
-    along {v = column_value env source place} {k = column_kind shape source place} (cc) (cc) (fits source place)
+kept (column source number) shape env k w fits found made =
+    along {v = column_value env source number} {k = column_kind shape source number} (cc) (cc) (fits source number)
 kept action shape env k w fits found made =
     along {v = action_value env} {k = Some kind.Text} (cc) (cc) (text_or_null-kind env.action)
 kept (unary op a) shape env k w fits found made =

@@ -64,7 +64,7 @@ of_operands op (Err fault) right hl hr e = hl e
 
 pub memoryless : (tree : Tree) (env : Environment) → eval tree env ≢ Err Memory
 memoryless (literal value) env e = cc
-memoryless (column source place) env e = cc
+memoryless (column source number) env e = cc
 memoryless action env e = cc
 memoryless (unary op a) env e = of_operand op (eval a env) (memoryless a env) e
 memoryless (binary op a b) env e = of_operands op (eval a env) (eval b env) (memoryless a env) (memoryless b env) e

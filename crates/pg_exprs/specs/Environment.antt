@@ -1,5 +1,6 @@
 -- What an expression is evaluated over.
-use Rattle.std.specs.Prelude.{ℕ, List, slice_get, Option, Some, None, unwrap_or}
+use Rattle.std.specs.Prelude.{ℕ, List, Option, Some, None, unwrap_or}
+use Rattle.pg_lists.specs.Numbered.{numbered}
 use Rattle.pg_values.specs.declared.value.Value.{Value}
 use Rattle.pg_values.specs.declared.value.Value.TheVariants.{Null, Text}
 
@@ -8,17 +9,18 @@ pub record Environment : Type 0 where
   pub rows : List (Option (List Value))
   pub action : Option (List ℕ)
 
--- the value at a place of a row, where there is one
-abbrev pub value_at : Option (Option (List Value)) → ℕ → Option Value
-value_at (Some (Some row)) place = slice_get row place
-value_at _ _ = None
+-- the value of the column of that number, where the source has a row
+abbrev pub value_among : Option (Option (List Value)) → ℕ → Option Value
+value_among (Some (Some row)) column = numbered row column
+value_among _ _ = None
 
-abbrev pub column_at : Environment → ℕ → ℕ → Option Value
-column_at env source place = value_at (slice_get env.rows source) place
+-- the value of a column of a source, both numbered from 0, if there is one
+abbrev pub column_of : Environment → ℕ → ℕ → Option Value
+column_of env source column = value_among (numbered env.rows source) column
 
 -- a column of an absent source is NULL
 abbrev pub column_value : Environment → ℕ → ℕ → Value
-column_value env source place = unwrap_or (column_at env source place) Null
+column_value env source column = unwrap_or (column_of env source column) Null
 
 abbrev pub text_or_null : Option (List ℕ) → Value
 text_or_null None = Null

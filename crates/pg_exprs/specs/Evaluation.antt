@@ -124,7 +124,7 @@ binary_outcome op (Ok a) right = if decides op a then Ok a else right_outcome op
 -- the value of an expression, or its first error
 abbrev pub eval : Tree → Environment → Result Value EvalFault
 eval (literal value) env = Ok value
-eval (column source place) env = Ok (column_value env source place)
+eval (column source number) env = Ok (column_value env source number)
 eval action env = Ok (action_value env)
 eval (unary op a) env = unary_outcome op (eval a env)
 eval (binary op a b) env = binary_outcome op (eval a env) (eval b env)

@@ -12,7 +12,7 @@ use Rattle.pg_exprs.specs.declared.operator.UnaryOp.TheVariants.{Not, IsNull, Is
 use Rattle.pg_exprs.specs.Columns.{column_kind}
 use Rattle.pg_exprs.specs.Tree.{Tree, literal, column, action, unary, binary}
 
--- a bare NULL has no kind and is taken as boolean, number or text, as its place asks
+-- a bare NULL has no kind and is taken as boolean, number or text, as what stands beside it asks
 abbrev pub is_boolean : Option Kind → Bool
 is_boolean None = true
 is_boolean (Some kind.Bool) = true
@@ -74,7 +74,7 @@ binary_kind_of op (Err fault) _ = Err fault
 -- the kind of an expression over sources of these shapes: None for a bare NULL
 abbrev pub kind_of : Tree → List (List (Option Kind)) → Result (Option Kind) KindFault
 kind_of (literal value) shape = Ok (kind_of_value value)
-kind_of (column source place) shape = Ok (column_kind shape source place)
+kind_of (column source number) shape = Ok (column_kind shape source number)
 kind_of action shape = Ok (Some kind.Text)
 kind_of (unary op a) shape = unary_kind_of op (kind_of a shape)
 kind_of (binary op a b) shape = binary_kind_of op (kind_of a shape) (kind_of b shape)

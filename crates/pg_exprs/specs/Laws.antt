@@ -20,7 +20,7 @@ HasKind value kind = (value ≡ Null) ⊎ (kind_of_value value ≡ kind)
 
 -- each column has the kind that the shape says
 abbrev pub FitsShape : Environment → List (List (Option Kind)) → Type 0
-FitsShape env shape = (source place : ℕ) → HasKind (column_value env source place) (column_kind shape source place)
+FitsShape env shape = (source column : ℕ) → HasKind (column_value env source column) (column_kind shape source column)
 
 -- over rows that fit the shape, an expression's value has the expression's kind
 abbrev pub KindsAreKept : Type 0

@@ -5,7 +5,7 @@ use Rattle.pg_exprs.specs.Tree.{Tree, literal, column, action, unary, binary}
 
 abbrev pub tree_of : Node → Tree
 tree_of (Literal value) = literal value
-tree_of (Column source place) = column source place
+tree_of (Column source number) = column source number
 tree_of Action = action
 tree_of (Unary op a) = unary op a.value
 tree_of (Binary op a b) = binary op a.value b.value

@@ -4,7 +4,7 @@ use Rattle.pg_values.specs.declared.value.Value.{Value}
 use Rattle.pg_exprs.specs.declared.operator.BinaryOp.{BinaryOp}
 use Rattle.pg_exprs.specs.declared.operator.UnaryOp.{UnaryOp}
 
--- a literal; a column of a source, both counted from 0; `merge_action()`; operators
+-- a literal; a column of a source, both numbered from 0; `merge_action()`; operators
 pub data Tree : Type 0 where
   literal : Value → Tree
   column : ℕ → ℕ → Tree

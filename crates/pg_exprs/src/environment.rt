@@ -23,7 +23,7 @@ impl<'rows, 'values> Model for Env<'rows, 'values> {
 }
 
 impl<'rows, 'values> Env<'rows, 'values> {
-    ghost use Rattle.pg_exprs.specs.Environment.{column_at};
+    ghost use Rattle.pg_exprs.specs.Environment.{column_of};
 
     pub fn new(
         rows: &'rows [Option<&'values [Value]>],
@@ -34,10 +34,10 @@ impl<'rows, 'values> Env<'rows, 'values> {
         Env { rows, action }
     }
 
-    /// The value of a column of a source, both counted from 0: `None`, which is NULL, where the source
+    /// The value of a column of a source, both numbered from 0: `None`, which is NULL, where the source
     /// is absent or has no such column.
     pub fn column(&self, source: u32, column: u32) -> Option<&'values Value>
-        ensures { option_copied result ≡ column_at self.now source column }
+        ensures { option_copied result ≡ column_of self.now source column }
     {
         let row = (*self.rows.get(source as usize)?)?;
         row.get(column as usize)

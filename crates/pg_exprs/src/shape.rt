@@ -40,7 +40,7 @@ impl Shape {
         Ok(())
     }
 
-    /// The kind of a column of a source, both counted from 0: `None` where it is not known.
+    /// The kind of a column of a source, both numbered from 0: `None` where it is not known.
     pub fn column(&self, source: u32, column: u32) -> Option<Kind>
         ensures { result ≡ column_kind self.now source column }
     {

@@ -1,5 +1,6 @@
-ghost use Rattle.std.specs.Prelude.{◌≡◌, ◌↔◌, ◌<◌, ◌++◌, ◌∷◌, [], IsTrue, MatchOption, OnErr, OnOk, length, slice_get};
+ghost use Rattle.std.specs.Prelude.{◌≡◌, ◌↔◌, ◌<◌, ◌++◌, ◌∷◌, [], IsTrue, MatchOption, OnErr, OnOk, length};
 ghost use Rattle.std.specs.Option.{option_copied, option_copied_mut};
+ghost use Rattle.pg_lists.specs.Numbered.{numbered};
 
 use crate::TryCopy;
 use std::alloc::{AllocError, Global};
@@ -65,28 +66,28 @@ impl<T> Items<T> {
         self.items.is_empty()
     }
 
-    /// The item at a place, counted from 0, or `None` past the end.
-    pub fn get(&self, at: usize) -> Option<&T>
-        ensures { option_copied result ≡ slice_get self.now at }
+    /// The item of a number, counted from 0, or `None` past the end.
+    pub fn get(&self, number: usize) -> Option<&T>
+        ensures { option_copied result ≡ numbered self.now number }
     {
-        self.items.get(at)
+        self.items.get(number)
     }
 
-    /// The item at a place of the list, counted from 0, to be changed in place.
-    pub fn item_mut(&mut self, at: usize) -> &mut T
-        requires { at < length self.old }
-        ensures* writes_back { sem 𝓛 (LendsItem T.row self.entry at result) }
-        ensures value { slice_get self.old at ≡ Some result.now }
+    /// The item of a number, counted from 0, to be changed where it stands.
+    pub fn item_mut(&mut self, number: usize) -> &mut T
+        requires { number < length self.old }
+        ensures* writes_back { sem 𝓛 (LendsItem T.row self.entry number result) }
+        ensures value { numbered self.old number ≡ Some result.now }
     {
-        &mut self.items[at]
+        &mut self.items[number]
     }
 
-    /// The item at a place, counted from 0, to be changed in place, or `None` past the end.
-    pub fn get_mut(&mut self, at: usize) -> Option<&mut T>
-        ensures* writes_back { sem 𝓛 (LendsItemIf T.row self.entry at result) }
-        ensures value { option_copied_mut result ≡ slice_get self.old at }
+    /// The item of a number, counted from 0, to be changed where it stands, or `None` past the end.
+    pub fn get_mut(&mut self, number: usize) -> Option<&mut T>
+        ensures* writes_back { sem 𝓛 (LendsItemIf T.row self.entry number result) }
+        ensures value { option_copied_mut result ≡ numbered self.old number }
     {
-        self.items.get_mut(at)
+        self.items.get_mut(number)
     }
 
     /// Gives the items up as a `Vec`, and takes no memory.

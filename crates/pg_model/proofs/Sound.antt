@@ -23,7 +23,7 @@ use Rattle.pg_model.specs.Lines.{lines_of, line_at}
 use Rattle.pg_model.specs.Names.{are_distinct}
 use Rattle.pg_model.specs.Scripts.{most_sessions, is_line}
 use Rattle.pg_values.specs.declared.value.Value.{Value}
-use Rattle.pg_model.specs.Numbered.{changed, changed_from_one}
+use Rattle.pg_lists.specs.Numbered.{changed, changed_from_one}
 use Rattle.pg_model.specs.Worlds.{fresh_session, empty_table, first_world}
 use Rattle.pg_model.specs.Moves.{IsPermitted}
 use Rattle.pg_model.specs.Effect.{snapped, found, proposed, placed, settled, inserted, committed, replied, closed, act_effect, effect}

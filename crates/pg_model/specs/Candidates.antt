@@ -3,7 +3,7 @@ use Rattle.std.specs.Prelude.{ℕ, List, Option}
 use Rattle.pg_values.specs.declared.value.Value.{Value}
 use Rattle.pg_model.specs.declared.script.Statement.{Statement}
 use Rattle.pg_model.specs.declared.script.Statement.TheVariants.{Insert}
-use Rattle.pg_model.specs.Numbered.{numbered, numbered_from_one}
+use Rattle.pg_lists.specs.Numbered.{numbered, numbered_from_one}
 
 -- the candidates of a statement: of an INSERT with VALUES its proposed rows, in the order written
 abbrev pub candidates_of : Statement → List (List Value)

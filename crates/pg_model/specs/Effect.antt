@@ -22,7 +22,7 @@ use Rattle.pg_model.specs.declared.world.Stage.TheVariants.{Settled, Found, Plac
 use Rattle.pg_model.specs.declared.world.World.{World}
 use Rattle.pg_model.specs.Lines.{line_at}
 use Rattle.pg_model.specs.Candidates.{candidate_of}
-use Rattle.pg_model.specs.Numbered.{changed_from_one}
+use Rattle.pg_lists.specs.Numbered.{changed_from_one}
 use Rattle.pg_model.specs.Worlds.{session_of, with_session, with_table}
 
 -- the session with its statement at another place; one that is in no statement stays as it is

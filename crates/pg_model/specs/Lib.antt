@@ -1,5 +1,4 @@
 pub mod Names
-pub mod Numbered
 pub mod Scripts
 pub mod Lines
 pub mod Rows

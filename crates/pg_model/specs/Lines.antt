@@ -3,7 +3,7 @@ use Rattle.std.specs.Prelude.{ℕ, ◌==◌, List, drop, filter, Option}
 use Rattle.pg_model.specs.declared.script.Line.{Line}
 use Rattle.pg_model.specs.declared.script.Script.{Script}
 use Rattle.pg_model.specs.declared.world.SessionView.{SessionView}
-use Rattle.pg_model.specs.Numbered.{numbered}
+use Rattle.pg_lists.specs.Numbered.{numbered}
 
 -- the lines that are given to a session, in order
 abbrev pub lines_of : ℕ → List Line → List Line

@@ -12,7 +12,7 @@ use Rattle.pg_model.specs.declared.journal.Reply.{Reply}
 use Rattle.pg_model.specs.declared.journal.Entry.{Entry}
 use Rattle.pg_model.specs.declared.journal.EntryAct.{EntryAct}
 use Rattle.pg_model.specs.declared.journal.EntryAct.TheVariants.{Snapped, Found, Placed, Inserted, Committed, Replied, Closed}
-use Rattle.pg_model.specs.Numbered.{numbered}
+use Rattle.pg_lists.specs.Numbered.{numbered}
 use Rattle.pg_model.specs.Rows.{tables_of}
 use Rattle.pg_model.specs.Journals.{world_after}
 

@@ -8,7 +8,7 @@ use Rattle.pg_model.specs.declared.world.Transaction.{Transaction}
 use Rattle.pg_model.specs.declared.world.Status.{Status}
 use Rattle.pg_model.specs.declared.world.Status.TheVariants.{Running, Committed}
 use Rattle.pg_model.specs.declared.world.World.{World}
-use Rattle.pg_model.specs.Numbered.{numbered_from_one}
+use Rattle.pg_lists.specs.Numbered.{numbered_from_one}
 
 -- the status of the transaction of that number; what setup stores is written by transaction 0,
 -- committed before all others

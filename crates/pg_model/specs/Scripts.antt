@@ -7,7 +7,7 @@ use Rattle.pg_model.specs.declared.script.Statement.{Statement}
 use Rattle.pg_model.specs.declared.script.Statement.TheVariants.{Insert}
 use Rattle.pg_model.specs.declared.script.Line.{Line}
 use Rattle.pg_model.specs.Names.{are_distinct}
-use Rattle.pg_model.specs.Numbered.{numbered}
+use Rattle.pg_lists.specs.Numbered.{numbered}
 
 -- a script names at most this many sessions
 abbrev pub most_sessions : ℕ

@@ -5,7 +5,7 @@ use Rattle.pg_model.specs.declared.world.TableView.{TableView}
 use Rattle.pg_model.specs.declared.world.SessionView.{SessionView}
 use Rattle.pg_model.specs.declared.world.Progress.TheVariants.{Idle}
 use Rattle.pg_model.specs.declared.world.World.{World}
-use Rattle.pg_model.specs.Numbered.{numbered, replaced, changed}
+use Rattle.pg_lists.specs.Numbered.{numbered, replaced, changed}
 
 -- a table of which no row number was drawn
 abbrev pub empty_table : TableView

@@ -1,5 +1,5 @@
--- What is known by its number: sessions, tables and lines are numbered from 0, and transactions, the
--- rows of a table and the candidates of a statement from 1.
+-- The items of a list by number. What is numbered from 0 (sessions, tables, lines, columns) and what is
+-- numbered from 1 (transactions, the rows of a table, the candidates of a statement) each have their words.
 use Rattle.std.specs.Prelude.{ℕ, zero, suc, List, Option, None, slice_get, slice_set}
 use Rattle.std.specs.Option.{option_map_or}
 
