@@ -1,4 +1,4 @@
--- A line has at most one reading, and it has one.
+-- A line has at most one reading, and it has one, with no more tokens than bytes.
 use Rattle.std.proofs.Common.{◌≡◌, ℕ, zero, suc, ◌+◌, ◌-◌, ◌<◌, ◌≤◌, true, eqb, List, [], ◌∷◌, ◌++◌, length, take, drop, Option, Some, None, Result, Ok, Err, ◌⊎◌, inl, inr, ⊎_elim, sym, refl, ap, subst, ◌∙◌, arith, append_assoc, append-nil, take-append-drop, length-append, length-drop, length-take-le, add-zero}
 use Rattle.std.specs.Prelude.{not}
 use Rattle.std.specs.Char.{is_ascii_digit}
@@ -13,7 +13,7 @@ use Rattle.pg_lexer.specs.declared.token.Token.{Token}
 use Rattle.pg_lexer.specs.Found.{begins_no_other, longest_sign}
 use Rattle.pg_lexer.specs.Bytes.{is_blank, begins_word, in_word, Starts}
 use Rattle.pg_lexer.specs.Lexemes.{Lexeme, word, digits, text, unended, mark, quoted, Spells, IsLongest, NoLexeme, meaning, IsCut, IsBad}
-use Rattle.pg_lexer.specs.Reading.{Begins, BeginsWith, BeginsBad, IsRead}
+use Rattle.pg_lexer.specs.Reading.{Begins, BeginsWith, BeginsBad, IsRead, IsReadFrom}
 use Rattle.pg_lexer.proofs.Lists.{aligned, passes, stops}
 use Rattle.pg_lexer.proofs.Exact.{exact, shown}
 use Rattle.pg_lexer.proofs.Longest.{word_longest, digits_longest, text_longest, unended_longest, sign_longest, no_sign}
@@ -293,6 +293,33 @@ read_up_to (suc n) at line short =
 
 pub read_one : (at : ℕ) (line : List ℕ) → (ts : List Spanned) × (f : Option BadPlace) × IsRead at line ts f
 read_one at line = read_up_to (suc (length line)) at line (omega arith)
+
+-- ---- no more tokens than bytes
+
+-- a token leaves fewer bytes behind it
+fewer_behind : (at : ℕ) (line : List ℕ) (token : Spanned) (after : List ℕ) → BeginsWith at line token after
+    → length after < length line
+fewer_behind at line token after w =
+    let long = cut_length token.start w.bytes w.front after (Ok token.token) w.cut in
+    let whole = ap length (w.begins.split ∙ ap (λ bs. w.begins.blanks ++ bs) w.cut.split) in
+    let sum : length line ≡ length w.begins.blanks + (length w.front + length after) = whole ∙ simp length-append in
+    omega arith
+
+pub few_tokens : (at : ℕ) (line : List ℕ) (tokens : List Spanned) (fault : Option BadPlace)
+    → IsRead at line tokens fault → length tokens ≤ length line
+few_tokens at line [] fault r = omega arith
+few_tokens at line (t ∷ ts) fault r =
+    let less = fewer_behind at line t r.0 r.1 in
+    let rest = few_tokens t.end r.0 ts fault r.2 in
+    omega arith
+
+-- from a place on there are no more tokens than the whole line has bytes
+pub few_tokens_from : (from : ℕ) (line : List ℕ) (tokens : List Spanned) (fault : Option BadPlace)
+    → IsReadFrom from line tokens fault → length tokens ≤ length line
+few_tokens_from from line tokens fault r =
+    let size = length-drop (from - 1) line in
+    let few = few_tokens from (drop (from - 1) line) tokens fault r in
+    omega arith
 
 -- ---- the loop over a line
 

@@ -1,5 +1,5 @@
 -- Tokens and their spans, beside one another.
-use Rattle.std.proofs.Common.{◌≡◌, ℕ, List, [], ◌∷◌, ◌++◌, length, map, refl, sym, ap, arith}
+use Rattle.std.proofs.Common.{◌≡◌, List, [], ◌∷◌, ◌++◌, length, map, refl, sym, ap, arith}
 use Rattle.pg_lexer.specs.declared.token.Span.{Span}
 use Rattle.pg_lexer.specs.declared.token.Spanned.{Spanned}
 use Rattle.pg_lexer.specs.declared.token.Token.{Token}

@@ -1,5 +1,5 @@
 -- What is proved of the definitions alone.
-use Rattle.std.specs.Prelude.{◌≡◌, ◌↔◌, ℕ, List, Option, Some}
+use Rattle.std.specs.Prelude.{◌≡◌, ◌↔◌, ℕ, ◌≤◌, List, length, Option, Some}
 use Rattle.pg_lexer.specs.declared.keyword.Keyword.{Keyword}
 use Rattle.pg_lexer.specs.declared.token.BadPlace.{BadPlace}
 use Rattle.pg_lexer.specs.declared.token.Spanned.{Spanned}
@@ -20,3 +20,9 @@ EachLineIsRead = (at : ℕ) (line : List ℕ) → (tokens : List Spanned) × (fa
 abbrev pub KeywordsAreTheirSpellings : Type 0
 KeywordsAreTheirSpellings =
     (keyword : Keyword) (word : List ℕ) → (keyword_of word ≡ Some keyword) ↔ (word ≡ spelling keyword)
+
+-- a line has no more tokens than bytes
+abbrev pub NoMoreTokensThanBytes : Type 0
+NoMoreTokensThanBytes =
+    (at : ℕ) (line : List ℕ) (tokens : List Spanned) (fault : Option BadPlace)
+    → IsRead at line tokens fault → length tokens ≤ length line

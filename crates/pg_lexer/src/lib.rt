@@ -12,7 +12,9 @@ mod token;
 mod word;
 
 pub use keyword::{Keyword, keyword_of};
-pub use laws::{at_most_one_reading, each_line_is_read, keywords_are_their_spellings};
+pub use laws::{
+    at_most_one_reading, each_line_is_read, keywords_are_their_spellings, no_more_tokens_than_bytes,
+};
 pub use read::{LexFault, Lexed, read_front, read_tokens};
 pub use sign::Sign;
 pub use text::{NameText, QuotedText};

@@ -78,6 +78,7 @@ pub fn read_front(alloc: Global, line: &[u8], from: u32) -> Result<Lexed, AllocE
     requires before_end { from ≤ length line.now + 1 }
     ensures read { IfOk result (λ lexed. IsReadFrom from line.now lexed.tokens lexed.fault) }
     ensures end { IfOk result (λ lexed. lexed.end ≡ length line.now + 1) }
+    ensures few { IfOk result (λ lexed. length lexed.tokens ≤ length line.now) }
 {
     let end = line.len() as u32 + 1;
     let mut tokens = Tokens::new(alloc);
@@ -105,7 +106,8 @@ pub fn read_tokens(alloc: Global, line: &[u8], from: u32) -> Result<Tokens, LexF
     requires short { length line.now ≤ 1048576 }
     requires after_start { 1 ≤ from }
     requires before_end { from ≤ length line.now + 1 }
-    ensures { IsReadOrFault from line.now result }
+    ensures read { IsReadOrFault from line.now result }
+    ensures few { IfOk result (λ tokens. length tokens ≤ length line.now) }
 {
     let Lexed {
         tokens,

@@ -1,6 +1,6 @@
-use Rattle.std.proofs.Common.{length, refl, true-eqb}
+use Rattle.std.proofs.Common.{Some, None, length, refl, true-eqb}
 use Rattle.std.proofs.lemmas.List.{take_rest, nil_from_length}
-use Rattle.pg_lexer.proofs.Readings.{read_begins, read_more, read_ends, read_bad, read_less}
+use Rattle.pg_lexer.proofs.Readings.{few_tokens_from, read_begins, read_more, read_ends, read_bad, read_less}
 use Rattle.pg_lexer.proofs.read.read_front.Goals as goal
 
 pub loop-rest-init : goal.loop-rest-init
@@ -27,7 +27,14 @@ returns-in-Bad-clause-read c =
     read_bad c.args.line.now c.args.from _ c.loop-rest.tokens c.loop-rest.rest.now c.in-Bad.bad c.loop-rest.invariant
     (rw c.in-Bad.is at c.in_ok-token.ensures)
 
+pub returns-in-Bad-clause-few : goal.returns-in-Bad-clause-few
+returns-in-Bad-clause-few c =
+    few_tokens_from c.args.from c.args.line.now c.loop-rest.tokens (Some c.in-Bad.bad) (returns-in-Bad-clause-read c)
+
 pub returns-clause-read : goal.returns-clause-read
 returns-clause-read c =
     read_ends c.args.line.now c.args.from _ c.loop-rest.tokens c.loop-rest.rest.now c.loop-rest.invariant
     (nil_from_length c.loop-rest.rest.now (true-eqb (length c.loop-rest.rest.now) 0 c.loop-rest-test.ensures))
+
+pub returns-clause-few : goal.returns-clause-few
+returns-clause-few c = few_tokens_from c.args.from c.args.line.now c.loop-rest.tokens None (returns-clause-read c)
