@@ -10,7 +10,7 @@ use Rattle.pg_model.specs.declared.world.World.{World}
 use Rattle.pg_model.specs.Lines.{line_at}
 use Rattle.pg_model.specs.Moves.{moves_of, session_moves}
 use Rattle.pg_model.specs.Sound.{IsSound}
-use Rattle.pg_model.specs.Stepped.{Schedule, first_of_list, is_closed, next_session, ready, remaining, settled, settled_by}
+use Rattle.pg_model.specs.Stepped.{Schedule, first_of_list, is_closed, ready, settled, settled_by}
 use Rattle.pg_model.proofs.Schedules.{first_move}
 
 drop_past : {X : Type 0} (xs : List X) (n : ℕ) → length xs ≤ n → drop n xs ≡ []
@@ -81,17 +81,3 @@ ended_moves script world session x sound there = (ended, unmoved (is_closed x.pr
         let has = first_move script world session x sound there (λ e. let h : true ≡ false = sym (ap is_closed e) ∙ is in cc) in
         let both : None ≡ Some has.act = sym none ∙ sym moved ∙ has.first in
         absurd (cc)
-
--- where a session is ready, it moves next
-pub next_is_ready : (script : Script) (world : World) (before now : Schedule) (session : ℕ) →
-    settled script world now ≡ settled script world before → ready script world now ≡ Some session →
-    next_session script world before ≡ Some session
-next_is_ready script world before now session same is =
-    rw (← same, settled_at_ready script world now session is, is) refl
-
--- where no line is left and no session is ready, one of those that remain moves next
-pub next_is_remaining : (script : Script) (world : World) (before now : Schedule) →
-    settled script world now ≡ settled script world before → length script.lines ≤ now.taken →
-    ready script world now ≡ None → next_session script world before ≡ remaining world
-next_is_remaining script world before now same past is =
-    rw (← same, settled_at_end script world now past, is) refl

@@ -52,16 +52,6 @@ less_back xs ys us vs e h = subst (λ zs. IsLess (xs ++ us) (zs ++ vs)) e (same 
     same [] = h
     same (z ∷ zs) = inr (refl, same zs)
 
--- past an equal number the rest decides
-pub is_less_more : (xs ys : List ℕ) (i : ℕ) → i < length xs → length xs ≡ length ys →
-    get_or xs i 0 ≡ get_or ys i 0 → is_less (drop i xs) (drop i ys) ≡ is_less (drop (i + 1) xs) (drop (i + 1) ys)
-is_less_more xs ys i h l e =
-    let x = get_or xs i 0 in
-    let y = get_or ys i 0 in
-    let dx = drop_more xs i 0 h in
-    let dy = drop_more ys i 0 (omega (arith, l)) in
-    rw (dx, dy) (cond-false (nat_lt x y) _ _ (le-ltb x y (omega (arith, e))) ∙ ap (λ b. b && is_less (drop (i + 1) xs) (drop (i + 1) ys)) (eq-eqb x y e))
-
 -- at the first number that differs, that number decides
 pub is_less_there : (xs ys : List ℕ) (i : ℕ) → i < length xs → length xs ≡ length ys →
     (get_or xs i 0 ≡ get_or ys i 0 → ⊥) → is_less (drop i xs) (drop i ys) ≡ nat_lt (get_or xs i 0) (get_or ys i 0)

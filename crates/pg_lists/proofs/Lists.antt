@@ -1,5 +1,5 @@
 -- Lemmas on lists that crates above share.
-use Rattle.std.proofs.Common.{◌≡◌, ◌≢◌, ◌<◌, ℕ, zero, suc, List, [], ◌∷◌, ◌++◌, arith, length, slice_get, slice_set, ap, refl, Some, None}
+use Rattle.std.proofs.Common.{◌≡◌, ◌≢◌, ◌<◌, ℕ, zero, suc, List, [], ◌∷◌, arith, length, slice_get, slice_set, ap, refl, Some, None}
 
 -- an item written back at its place changes nothing
 pub slice_set_same : {X : Type 0} (xs : List X) (i : ℕ) (x : X) → slice_get xs i ≡ Some x → slice_set xs i x ≡ xs
@@ -12,16 +12,6 @@ pub slice_set_past : {X : Type 0} (xs : List X) (i : ℕ) (x : X) → slice_get 
 slice_set_past [] i x past = refl
 slice_set_past (y ∷ ys) zero x past = cc
 slice_set_past (y ∷ ys) (suc i) x past = ap (λ zs. y ∷ zs) (slice_set_past ys i x past)
-
--- what each item is stays so with one item more
-pub pushed_each : {X : Type 0} (f : ℕ → X) (xs : List X) (x : X) →
-    ((i : ℕ) → i < length xs → slice_get xs i ≡ Some (f i)) → x ≡ f (length xs) →
-    (i : ℕ) → i < length (xs ++ x ∷ []) → slice_get (xs ++ x ∷ []) i ≡ Some (f i)
-pushed_each f [] x each is zero within = cc
-pushed_each f [] x each is (suc i) within = absurd (omega arith)
-pushed_each f (y ∷ ys) x each is zero within = each zero (omega arith)
-pushed_each f (y ∷ ys) x each is (suc i) within =
-    pushed_each (λ n. f (suc n)) ys x (λ n lt. each (suc n) (omega (arith, lt))) is i (omega (arith, within))
 
 -- what each item is stays so with one item replaced
 pub replaced_each : {X : Type 0} (f : ℕ → X) (xs : List X) (place : ℕ) (x : X) →
