@@ -1,7 +1,8 @@
 -- One reading of the parts of statements: names, conditions, items, rows, and the sources behind FROM.
-use Rattle.std.proofs.Common.{◌≡◌, ◌∷◌, ◌++◌, ◌+◌, ℕ, suc, Bool, true, false, List, [], Option, Some, None, refl, sym, ◌∙◌, subst, inl, inr}
-use Rattle.std.specs.Prelude.{◌⊎◌, ◌&&◌}
+use Rattle.std.proofs.Common.{◌≡◌, ◌∷◌, ◌++◌, ◌+◌, ℕ, suc, Bool, true, List, [], Option, Some, None, refl, sym, ◌∙◌, subst, inl, inr}
+use Rattle.std.specs.Prelude.{◌⊎◌}
 use Rattle.std.proofs.Math.Dec.{leb}
+use Rattle.std.proofs.lemmas.Bool.{and_from}
 use Rattle.pg_grammar.specs.Answers.{next, Reads, IsRead, read}
 use Rattle.pg_grammar.specs.Languages.{Lang, one, bind}
 use Rattle.pg_grammar.specs.Limits.{Limit, sources}
@@ -76,7 +77,8 @@ agree_table_ref = agree_free (behind 10) name table_named agree_name agree_table
 
 -- expressions, alone and behind a word
 expr_follows : (o : Option Token) → behind 8 o ≡ true → behind_expr o ≡ true
-unfolding rank has behind_factor behind_product behind_sum behind_concatenation behind_comparison behind_predicate behind_conjunction behind_expr or_op and_op compare_op concat_op sum_op product_op
+unfolding rank has behind_factor behind_product behind_sum behind_concatenation behind_comparison behind_predicate
+    behind_conjunction behind_expr or_op and_op compare_op concat_op sum_op product_op
 expr_follows None b = refl
 expr_follows (Some (t.Sign s.Dot)) b = absurd (cc b)
 expr_follows (Some (t.Sign s.Open)) b = absurd (cc b)
@@ -108,13 +110,9 @@ as_follows (Some (t.Keyword k.As)) b = absurd (cc b)
 as_follows (Some (t.Keyword _)) b = refl
 as_follows (Some _) b = refl
 
-both : (a b : Bool) → a ≡ true → b ≡ true → (a && b) ≡ true
-both true b e h = h
-both false b e h = absurd (cc e)
-
 item_follows : (o : Option Token) → behind 10 o ≡ true → behind_item o ≡ true
 unfolding behind_item
-item_follows o b = both (behind_expr o) (behind_as o) (expr_follows o (deeper 8 10 refl o b)) (as_follows o b)
+item_follows o b = and_from (behind_expr o) (behind_as o) (expr_follows o (deeper 8 10 refl o b)) (as_follows o b)
 
 pub single_expr : Single 8 expr
 single_expr = agree_less behind_expr (behind 8) expr expr expr_follows expr_agrees

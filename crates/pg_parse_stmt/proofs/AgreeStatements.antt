@@ -29,6 +29,7 @@ use Rattle.pg_parse_stmt.specs.declared.word.ChangeWord.TheVariants as change_wo
 use Rattle.pg_parse_stmt.proofs.AgreeParts.{agree_name, agree_table_ref, single_expr, agree_condition, tail_condition, agree_items, tail_returning, agree_tuple, agree_tuples, agree_sets, agree_elements, agree_columns, agree_subselect, agree_source, agree_from}
 use Rattle.pg_parse_stmt.proofs.Agreements.{outside, between, starts_first, rank, behind, deeper, Single, single, loosened, single_list, Tail, tail_gives, tail_token, tail_bind, tail_or, tail_optional, agree_rule, starts_optional_at, apart_flip, apart_words, apart_token, agree_then, agree_free, agree_made, agree_choice, agree_words, agree_or, agree_optional, agree_optional_word, agree_repeat, starts_repeat}
 use Rattle.pg_parse_stmt.proofs.Steps.{starts_or, starts_optional}
+use Rattle.pg_parse_stmt.proofs.Inserts.{starts_rows}
 
 -- the order of rows
 direction_outside : (u : Token) (d : Direction) → direction_of u ≡ Some d → outside (behind 9) (Some u) ≡ true
@@ -132,12 +133,6 @@ agree_rows =
     (agree_made (behind 13) tuples _ (loosened 11 13 tuples refl agree_tuples))
     (agree_made (behind 13) (subselect 0) _ (agree_subselect 0))
 
-starts_rows : (f g : Option Token → Bool) → f (Some (t.Keyword k.Values)) ≡ true →
-    f (Some (t.Keyword k.Select)) ≡ true → Starts f rows g
-unfolding rows
-starts_rows f g a b =
-    starts_either f g _ _ (starts_token f g (t.Keyword k.Values) _ a) (starts_token f g (t.Keyword k.Select) _ b)
-
 agree_target_elements : Single 15 target_elements
 unfolding target_elements
 agree_target_elements =
@@ -221,9 +216,9 @@ agree_insert =
     (λ a. agree_then behind_columns (behind 18) columns _ agree_columns
     (λ c. agree_rule 13 18 rows _ agree_rows (λ r. tail_conflict _
     (λ o. tail_returning 15 18 _ refl refl (λ i. tail_gives 16 18 _ refl))))
-    (λ c. starts_first behind_columns (behind 18) rows _ (starts_rows behind_columns any refl refl)))
+    (λ c. starts_first behind_columns (behind 18) rows _ (starts_rows behind_columns refl refl any)))
     (λ a. starts_bind behind_as behind_as (behind 18) columns _ starts_columns
-    (λ c. starts_first behind_as (behind 18) rows _ (starts_rows behind_as any refl refl)))))
+    (λ c. starts_first behind_as (behind 18) rows _ (starts_rows behind_as refl refl any)))))
 
 -- UPDATE and DELETE
 pub agree_update : Single 18 update

@@ -1,11 +1,10 @@
 -- One reading of the forms that many rules have, and how loosely a token binds what stands before it.
-use Rattle.std.proofs.Common.{◌≡◌, ◌∷◌, ◌++◌, ℕ, suc, Bool, true, false, [], Option, Some, None, refl, ap, ◌∙◌, inl, inr, arith}
+use Rattle.std.proofs.Common.{◌≡◌, ◌∷◌, ◌++◌, ℕ, suc, Bool, true, false, [], Option, Some, None, refl, ap, ◌∙◌, arith}
 use Rattle.std.specs.Prelude.{not, ◌&&◌, is_some}
 use Rattle.std.proofs.Math.Dec.{leb}
 use Rattle.std.proofs.lemmas.Bool.{le-leb, leb-true, both_ways, not_from_true, and_right}
 use Rattle.pg_grammar.specs.Answers.{next}
-use Rattle.pg_grammar.specs.Languages.{Lang, gives, token, one, bind, either, more, reaches}
-use Rattle.pg_grammar.specs.Limits.{Limit}
+use Rattle.pg_grammar.specs.Languages.{Lang, gives, token, one, bind, either, more}
 use Rattle.pg_grammar.proofs.Agreeing.{Agree, Apart, apart_starts, agree_less, agree_gives, agree_token, agree_bind, agree_either, agree_more}
 use Rattle.pg_grammar.proofs.Words.{Starts, starts_gives, starts_token, starts_one, starts_bind, starts_either, starts_more}
 use Rattle.pg_lexer.specs.declared.keyword.Keyword.TheVariants as k
@@ -29,11 +28,6 @@ not_true : (b : Bool) → not b ≡ true → b ≡ false
 not_true true e = absurd (cc e)
 not_true false e = refl
 
-pub is_between : (a b : Bool) → a ≡ true → b ≡ false → (a && not b) ≡ true
-is_between true false e h = refl
-is_between true true e h = absurd (cc h)
-is_between false b e h = absurd (cc e)
-
 -- what begins with p begins with q
 pub starts_as : {V : Type 0} (p q g : Option Token → Bool) {L : Lang Token V} →
     ((o : Option Token) → p o ≡ true → q o ≡ true) →
@@ -53,17 +47,6 @@ starts_has p g = starts_one (has p) g p (λ u x e. ap is_some e)
 -- Apart
 pub apart_flip : {V : Type 0} {f : Option Token → Bool} {L M : Lang Token V} → Apart L M f → Apart M L f
 apart_flip a = record { apart = λ m n s v w y z l r c d. a.apart n m s w v z y r l d c }
-
-pub apart_either : {V : Type 0} {f : Option Token → Bool} {L M N : Lang Token V} → Apart L N f → Apart M N f →
-    Apart (either L M) N f
-apart_either a b = record {
-  apart =
-      λ m n s v w y z l r c d. elim l [ inl x ↦ a.apart m n s v w y z x r c d | inr x ↦ b.apart m n s v w y z x r c d ];
-}
-
-pub apart_reaches : {V : Type 0} {f : Option Token → Bool} {L M : Lang Token V} (limit : Limit) (h : ℕ) → Apart L M f →
-    Apart (reaches limit h L) M f
-apart_reaches limit h a = record { apart = λ m n s v w y z l r c d. a.apart m n s v w y z l.1 r c d }
 
 pub apart_words : {V : Type 0} (f : Option Token → Bool) (u x : Token) (L M : Lang Token V) → (u ≡ x → ⊥) →
     Apart (token u L) (token x M) f
@@ -172,8 +155,8 @@ module _ {X V : Type 0} (before behind : Option Token → Bool) (L : Lang Token 
       (λ x. starts_rest (first x))
 
 -- how loosely a token binds what stands before it: 0 for what goes on with a name, 1 to 8 for the levels of operators,
--- then what goes on with a part of a statement, and 19 for all else. The first word of what may be left out is of a lower
--- rank than all that may stand behind it
+-- then what goes on with a part of a statement, and 19 for all else. The first word of what may be left out is of a
+-- lower rank than all that may stand behind it
 unfoldable pub rank : Option Token → ℕ
 rank (Some (t.Sign s.Dot)) = 0
 rank (Some (t.Sign s.Open)) = 0

@@ -13,7 +13,7 @@ use Rattle.pg_parse_expr.specs.Behind.{behind_expr}
 use Rattle.pg_parse_expr.specs.Grammar.{expr}
 use Rattle.pg_parse_expr.specs.Tree.{Tree}
 use Rattle.pg_parse_stmt.specs.Behind.{any}
-use Rattle.pg_parse_stmt.specs.Spellings.{spelled_name, spelled_expr}
+use Rattle.pg_parse_stmt.specs.Spellings.{spelled_expr}
 use Rattle.pg_parse_stmt.proofs.Lists.{starts_any}
 use Rattle.pg_parse_stmt.proofs.Steps.{word_read, word_missed, part_read}
 use Rattle.pg_parse_stmt.specs.Grammar.{name, assignment}
@@ -45,11 +45,6 @@ spelled_assignment_after_column : (column : List ℕ) → Spelled (assignment_af
 unfolding assignment_after_column
 spelled_assignment_after_column column =
     spelled_token (t.Sign s.Equal) (assignment_after_equal column) (spelled_assignment_after_equal column)
-
-spelled_whole : Spelled assignment
-unfolding assignment assignment_after_column assignment_after_equal assignment_after_value assignment_made
-spelled_whole =
-    spelled_bind name assignment_after_column spelled_name (λ column. spelled_assignment_after_column column)
 
 starts_assignment_after_column : (column : List ℕ) → Starts any (assignment_after_column column) behind_expr
 unfolding assignment_after_column assignment_after_equal assignment_after_value assignment_made

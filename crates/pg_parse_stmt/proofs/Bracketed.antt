@@ -1,5 +1,5 @@
 -- Sources in brackets
-use Rattle.std.proofs.Common.{◌≡◌, ◌∷◌, ◌+◌, ℕ, suc, true, false, List, [], length, Some, None, refl, sym, ap, ◌∙◌}
+use Rattle.std.proofs.Common.{◌≡◌, ◌∷◌, ◌+◌, ℕ, suc, true, false, List, [], length, Some, refl, sym, ap}
 use Rattle.pg_grammar.specs.declared.fault.Fault.{Fault}
 use Rattle.pg_grammar.specs.declared.fault.Fault.TheVariants.{Syntax}
 use Rattle.pg_grammar.specs.Languages.{Lang, gives, token, one, bind, either}
@@ -32,8 +32,8 @@ use Rattle.pg_parse_stmt.specs.declared.tree.TableRef.{TableRef}
 use Rattle.pg_parse_stmt.specs.declared.tree.Source.{Source}
 use Rattle.pg_parse_stmt.specs.declared.tree.Source.TheVariants as source_of
 use Rattle.pg_parse_stmt.specs.declared.tree.Subselect.{Subselect}
-use Rattle.pg_parse_stmt.proofs.Subselects.{spelled_subselect}
-use Rattle.pg_parse_stmt.proofs.Tables.{spelled_named, some_name, no_name_first}
+use Rattle.pg_parse_stmt.proofs.Tables.{spelled_named, spelled_table_ref, some_name, no_name_first}
+use Rattle.pg_parse_stmt.proofs.Elements.{open_is_no_name}
 use Rattle.pg_parse_stmt.proofs.Following.{close_behind_subselect, close_behind_tuples}
 
 spelled_alias : Spelled alias
@@ -210,12 +210,6 @@ unfolding query_source_after_query
 spelled_query_source_after_query n query =
     spelled_token (t.Sign s.Close) (query_source_after_close n query) (spelled_query_source_after_close n query)
 
-pub spelled_query_source : (n : ℕ) → Spelled (query_source n)
-unfolding query_source query_source_after_query query_source_after_close query_source_after_alias query_source_made
-spelled_query_source n =
-    spelled_bind (subselect n) (query_source_after_query n) (spelled_subselect n)
-    (λ query. spelled_query_source_after_query n query)
-
 starts_query_source_after_query : (n : ℕ) → (query : Subselect) →
     Starts behind_subselect (query_source_after_query n query) any
 unfolding query_source_after_query query_source_after_close query_source_after_alias query_source_made
@@ -344,14 +338,6 @@ spelled_table_made u = spelled_gives (source_of.Table u)
 starts_table_made : (u : TableRef) → Starts behind_table (table_made u) behind_table
 unfolding table_made
 starts_table_made u = starts_gives behind_table behind_table (source_of.Table u) (λ o e. e)
-
-open_is_no_name : (u : Token) (x : List ℕ) → u ≡ t.Sign s.Open → name_of u ≡ Some x → ⊥
-unfolding name_of
-open_is_no_name u x e h = let o : None ≡ Some x = sym (ap name_of e) ∙ h in cc o
-
-spelled_table_ref : Spelled table_ref
-unfolding table_ref
-spelled_table_ref = spelled_bind name table_named spelled_name spelled_named
 
 bars_table : (xs : List Token) → ((u : Token) (x : List ℕ) → next xs ≡ Some u → name_of u ≡ Some x → ⊥) →
     Bars (bind table_ref table_made) behind_table 1 xs

@@ -13,7 +13,7 @@ use Rattle.pg_parse_expr.specs.Grammar.{expr}
 use Rattle.pg_parse_expr.specs.Tree.{Tree}
 use Rattle.pg_parse_stmt.specs.Behind.{any}
 use Rattle.pg_parse_stmt.specs.Forms.{in_brackets}
-use Rattle.pg_parse_stmt.specs.Spellings.{spelled_name, spelled_expr}
+use Rattle.pg_parse_stmt.specs.Spellings.{spelled_expr}
 use Rattle.pg_parse_stmt.proofs.Lists.{starts_any}
 use Rattle.pg_parse_stmt.proofs.Steps.{word_read, word_missed, part_read}
 use Rattle.pg_parse_stmt.specs.Grammar.{name, names, default, column_constraint_behind, column_constraint_named, column_rule_behind, table_constraint_behind}
@@ -22,7 +22,6 @@ use Rattle.pg_parse_stmt.specs.Words.{constraint_of}
 use Rattle.pg_values.specs.declared.value.Value.{Value}
 use Rattle.pg_parse_stmt.specs.declared.word.ConstraintWord.{ConstraintWord}
 use Rattle.pg_parse_stmt.specs.declared.word.ConstraintWord.TheVariants as constraint_word
-use Rattle.pg_parse_stmt.specs.declared.word.RuleWord.{RuleWord}
 use Rattle.pg_parse_stmt.specs.declared.word.RuleWord.TheVariants as rule_word
 use Rattle.pg_parse_stmt.specs.declared.tree.ColumnConstraint.{ColumnConstraint}
 use Rattle.pg_parse_stmt.specs.declared.tree.ColumnConstraint.TheVariants as column_constraint
@@ -200,14 +199,6 @@ rule_named xs ys zs ws n w c r q h =
     part_read name constraint_then any any xs ys n (read c ws) r (λ n. starts_any (constraint_then n) any)
     (part_read (one constraint_of) (column_constraint_named (Some n)) any any ys zs w (read c ws) q
     (λ w. starts_any (column_constraint_named (Some n) w) any) h)
-
-pub default_is_spelled : Spelled default → (w : RuleWord) → Spelled (column_rule_behind w)
-unfolding column_rule_behind constraint_then rule_default_made
-default_is_spelled a rule_word.Not =
-    spelled_token (t.Keyword k.Null) (gives column_rule.NotNull) (spelled_gives column_rule.NotNull)
-default_is_spelled a rule_word.Default = spelled_bind default rule_default_made a spelled_rule_default_made
-default_is_spelled a rule_word.Named = spelled_bind name constraint_then spelled_name spelled_constraint_then
-default_is_spelled a (rule_word.Unnamed w) = spelled_named_constraint None w
 
 table_unique_made : List (List ℕ) → Lang Token TableConstraint
 table_unique_made v = gives (table_constraint.Unique v)

@@ -174,11 +174,6 @@ spelled_index_after_unique : Spelled index_after_unique
 unfolding index_after_unique
 spelled_index_after_unique = spelled_token (t.Keyword k.Index) index_after_index spelled_index_after_index
 
-pub spelled_create_index : Spelled create_index
-unfolding create_index index_after_unique index_after_index index_after_name index_after_on index_after_table
-    index_after_elements index_after_condition create_index_made
-spelled_create_index = spelled_token (t.Keyword k.Unique) index_after_unique spelled_index_after_unique
-
 starts_index_after_name : (named : List ℕ) → Starts any (index_after_name named) behind_statement
 unfolding index_after_unique index_after_index index_after_name index_after_on index_after_table index_after_elements
     index_after_condition create_index_made

@@ -56,7 +56,7 @@ spelled_expr_made : (v : Tree) → Spelled (expr_made v)
 unfolding expr_made
 spelled_expr_made v = spelled_gives (element_of.Expr v)
 
-open_is_no_name : (u : Token) (y : List ℕ) → u ≡ t.Sign s.Open → name_of u ≡ Some y → ⊥
+pub open_is_no_name : (u : Token) (y : List ℕ) → u ≡ t.Sign s.Open → name_of u ≡ Some y → ⊥
 unfolding name_of
 open_is_no_name u y e h = let o : None ≡ Some y = sym (ap name_of e) ∙ h in cc o
 

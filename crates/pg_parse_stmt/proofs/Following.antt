@@ -15,21 +15,25 @@ use Rattle.pg_parse_stmt.specs.Words.{direction_of, link_of}
 
 -- behind_expr
 pub as_behind_expr : behind_expr (Some (t.Keyword k.As)) ≡ true
-unfolding behind_expr behind_conjunction has or_op and_op behind_predicate behind_comparison behind_concatenation compare_op behind_sum concat_op behind_product sum_op behind_factor product_op
+unfolding behind_expr behind_conjunction has or_op and_op behind_predicate behind_comparison behind_concatenation
+    compare_op behind_sum concat_op behind_product sum_op behind_factor product_op
 as_behind_expr = refl
 
 pub expr_direction : (u : Token) (d : Direction) → direction_of u ≡ Some d → behind_expr (Some u) ≡ true
-unfolding direction_of behind_expr behind_conjunction has or_op and_op behind_predicate behind_comparison behind_concatenation compare_op behind_sum concat_op behind_product sum_op behind_factor product_op
+unfolding direction_of behind_expr behind_conjunction has or_op and_op behind_predicate behind_comparison
+    behind_concatenation compare_op behind_sum concat_op behind_product sum_op behind_factor product_op
 expr_direction (t.Keyword k.Asc) d e = refl
 expr_direction (t.Keyword k.Desc) d e = refl
 expr_direction _ d e = absurd (let o : None ≡ Some d = e in cc o)
 
 pub nulls_behind_expr : behind_expr (Some (t.Keyword k.Nulls)) ≡ true
-unfolding behind_expr behind_conjunction has or_op and_op behind_predicate behind_comparison behind_concatenation compare_op behind_sum concat_op behind_product sum_op behind_factor product_op
+unfolding behind_expr behind_conjunction has or_op and_op behind_predicate behind_comparison behind_concatenation
+    compare_op behind_sum concat_op behind_product sum_op behind_factor product_op
 nulls_behind_expr = refl
 
 pub when_behind_expr : behind_expr (Some (t.Keyword k.When)) ≡ true
-unfolding behind_expr behind_conjunction has or_op and_op behind_predicate behind_comparison behind_concatenation compare_op behind_sum concat_op behind_product sum_op behind_factor product_op
+unfolding behind_expr behind_conjunction has or_op and_op behind_predicate behind_comparison behind_concatenation
+    compare_op behind_sum concat_op behind_product sum_op behind_factor product_op
 when_behind_expr = refl
 
 -- behind_columns
@@ -83,29 +87,41 @@ values_behind_as = refl
 
 -- behind_condition
 pub end_behind_condition : (o : Option Token) → behind_statement o ≡ true → behind_condition o ≡ true
-unfolding behind_statement behind_condition behind_expr is_word behind_conjunction has or_op spelling and_op behind_predicate behind_comparison behind_concatenation compare_op behind_sum concat_op behind_product sum_op behind_factor product_op
+unfolding behind_statement behind_condition behind_expr is_word behind_conjunction has or_op spelling and_op
+    behind_predicate behind_comparison behind_concatenation compare_op behind_sum concat_op behind_product sum_op
+    behind_factor product_op
 end_behind_condition None e = refl
 end_behind_condition (Some (t.Sign s.Semicolon)) e = refl
 end_behind_condition _ e = absurd (false≢true e)
 
 pub for_behind_condition : behind_condition (Some (t.Keyword k.For)) ≡ true
-unfolding behind_condition behind_expr is_word behind_conjunction has or_op spelling and_op behind_predicate behind_comparison behind_concatenation compare_op behind_sum concat_op behind_product sum_op behind_factor product_op
+unfolding behind_condition behind_expr is_word behind_conjunction has or_op spelling and_op behind_predicate
+    behind_comparison behind_concatenation compare_op behind_sum concat_op behind_product sum_op behind_factor
+    product_op
 for_behind_condition = refl
 
 pub limit_behind_condition : behind_condition (Some (t.Keyword k.Limit)) ≡ true
-unfolding behind_condition behind_expr is_word behind_conjunction has or_op spelling and_op behind_predicate behind_comparison behind_concatenation compare_op behind_sum concat_op behind_product sum_op behind_factor product_op
+unfolding behind_condition behind_expr is_word behind_conjunction has or_op spelling and_op behind_predicate
+    behind_comparison behind_concatenation compare_op behind_sum concat_op behind_product sum_op behind_factor
+    product_op
 limit_behind_condition = refl
 
 pub order_behind_condition : behind_condition (Some (t.Keyword k.Order)) ≡ true
-unfolding behind_condition behind_expr is_word behind_conjunction has or_op spelling and_op behind_predicate behind_comparison behind_concatenation compare_op behind_sum concat_op behind_product sum_op behind_factor product_op
+unfolding behind_condition behind_expr is_word behind_conjunction has or_op spelling and_op behind_predicate
+    behind_comparison behind_concatenation compare_op behind_sum concat_op behind_product sum_op behind_factor
+    product_op
 order_behind_condition = refl
 
 pub returning_behind_condition : behind_condition (Some (t.Keyword k.Returning)) ≡ true
-unfolding behind_condition behind_expr is_word behind_conjunction has or_op spelling and_op behind_predicate behind_comparison behind_concatenation compare_op behind_sum concat_op behind_product sum_op behind_factor product_op
+unfolding behind_condition behind_expr is_word behind_conjunction has or_op spelling and_op behind_predicate
+    behind_comparison behind_concatenation compare_op behind_sum concat_op behind_product sum_op behind_factor
+    product_op
 returning_behind_condition = refl
 
 pub subselect_end_behind_condition : (o : Option Token) → behind_subselect o ≡ true → behind_condition o ≡ true
-unfolding behind_subselect behind_condition behind_expr is_word behind_conjunction has or_op spelling and_op behind_predicate behind_comparison behind_concatenation compare_op behind_sum concat_op behind_product sum_op behind_factor product_op
+unfolding behind_subselect behind_condition behind_expr is_word behind_conjunction has or_op spelling and_op
+    behind_predicate behind_comparison behind_concatenation compare_op behind_sum concat_op behind_product sum_op
+    behind_factor product_op
 subselect_end_behind_condition None e = refl
 subselect_end_behind_condition (Some (t.Sign s.Close)) e = refl
 subselect_end_behind_condition (Some (t.Sign s.Semicolon)) e = refl
@@ -115,46 +131,64 @@ subselect_end_behind_condition _ e = absurd (false≢true e)
 
 -- behind_item
 pub none_follows : behind_item None ≡ true
-unfolding behind_item behind_as behind_expr is_word behind_conjunction has or_op spelling and_op behind_predicate behind_comparison behind_concatenation compare_op behind_sum concat_op behind_product sum_op behind_factor product_op
+unfolding behind_item behind_as behind_expr is_word behind_conjunction has or_op spelling and_op behind_predicate
+    behind_comparison behind_concatenation compare_op behind_sum concat_op behind_product sum_op behind_factor
+    product_op
 none_follows = refl
 
 -- behind_items
 pub from_behind_items : behind_items (Some (t.Keyword k.From)) ≡ true
-unfolding behind_items behind_item behind_list behind_as behind_expr is_comma is_word behind_conjunction has or_op spelling and_op behind_predicate behind_comparison behind_concatenation compare_op behind_sum concat_op behind_product sum_op behind_factor product_op
+unfolding behind_items behind_item behind_list behind_as behind_expr is_comma is_word behind_conjunction has or_op
+    spelling and_op behind_predicate behind_comparison behind_concatenation compare_op behind_sum concat_op
+    behind_product sum_op behind_factor product_op
 from_behind_items = refl
 
 -- behind_returning
 pub end_behind_returning : (o : Option Token) → behind_statement o ≡ true → behind_returning o ≡ true
-unfolding behind_statement behind_returning behind_items is_word behind_item behind_list spelling behind_as behind_expr is_comma behind_conjunction has or_op and_op behind_predicate behind_comparison behind_concatenation compare_op behind_sum concat_op behind_product sum_op behind_factor product_op
+unfolding behind_statement behind_returning behind_items is_word behind_item behind_list spelling behind_as behind_expr
+    is_comma behind_conjunction has or_op and_op behind_predicate behind_comparison behind_concatenation compare_op
+    behind_sum concat_op behind_product sum_op behind_factor product_op
 end_behind_returning None e = refl
 end_behind_returning (Some (t.Sign s.Semicolon)) e = refl
 end_behind_returning _ e = absurd (false≢true e)
 
 pub returning_goes_on_returning : behind_returning (Some (t.Keyword k.Returning)) ≡ false
-unfolding behind_returning behind_items is_word behind_item behind_list spelling behind_as behind_expr is_comma behind_conjunction has or_op and_op behind_predicate behind_comparison behind_concatenation compare_op behind_sum concat_op behind_product sum_op behind_factor product_op
+unfolding behind_returning behind_items is_word behind_item behind_list spelling behind_as behind_expr is_comma
+    behind_conjunction has or_op and_op behind_predicate behind_comparison behind_concatenation compare_op behind_sum
+    concat_op behind_product sum_op behind_factor product_op
 returning_goes_on_returning = refl
 
 -- behind_sets
 pub end_behind_sets : (o : Option Token) → behind_statement o ≡ true → behind_sets o ≡ true
-unfolding behind_statement behind_sets behind_expr behind_list behind_conjunction has or_op is_comma and_op behind_predicate behind_comparison behind_concatenation compare_op behind_sum concat_op behind_product sum_op behind_factor product_op
+unfolding behind_statement behind_sets behind_expr behind_list behind_conjunction has or_op is_comma and_op
+    behind_predicate behind_comparison behind_concatenation compare_op behind_sum concat_op behind_product sum_op
+    behind_factor product_op
 end_behind_sets None e = refl
 end_behind_sets (Some (t.Sign s.Semicolon)) e = refl
 end_behind_sets _ e = absurd (false≢true e)
 
 pub from_behind_sets : behind_sets (Some (t.Keyword k.From)) ≡ true
-unfolding behind_sets behind_expr behind_list behind_conjunction has or_op is_comma and_op behind_predicate behind_comparison behind_concatenation compare_op behind_sum concat_op behind_product sum_op behind_factor product_op
+unfolding behind_sets behind_expr behind_list behind_conjunction has or_op is_comma and_op behind_predicate
+    behind_comparison behind_concatenation compare_op behind_sum concat_op behind_product sum_op behind_factor
+    product_op
 from_behind_sets = refl
 
 pub returning_behind_sets : behind_sets (Some (t.Keyword k.Returning)) ≡ true
-unfolding behind_sets behind_expr behind_list behind_conjunction has or_op is_comma and_op behind_predicate behind_comparison behind_concatenation compare_op behind_sum concat_op behind_product sum_op behind_factor product_op
+unfolding behind_sets behind_expr behind_list behind_conjunction has or_op is_comma and_op behind_predicate
+    behind_comparison behind_concatenation compare_op behind_sum concat_op behind_product sum_op behind_factor
+    product_op
 returning_behind_sets = refl
 
 pub when_behind_sets : behind_sets (Some (t.Keyword k.When)) ≡ true
-unfolding behind_sets behind_expr behind_list behind_conjunction has or_op is_comma and_op behind_predicate behind_comparison behind_concatenation compare_op behind_sum concat_op behind_product sum_op behind_factor product_op
+unfolding behind_sets behind_expr behind_list behind_conjunction has or_op is_comma and_op behind_predicate
+    behind_comparison behind_concatenation compare_op behind_sum concat_op behind_product sum_op behind_factor
+    product_op
 when_behind_sets = refl
 
 pub where_behind_sets : behind_sets (Some (t.Keyword k.Where)) ≡ true
-unfolding behind_sets behind_expr behind_list behind_conjunction has or_op is_comma and_op behind_predicate behind_comparison behind_concatenation compare_op behind_sum concat_op behind_product sum_op behind_factor product_op
+unfolding behind_sets behind_expr behind_list behind_conjunction has or_op is_comma and_op behind_predicate
+    behind_comparison behind_concatenation compare_op behind_sum concat_op behind_product sum_op behind_factor
+    product_op
 where_behind_sets = refl
 
 -- behind_tuples
@@ -164,7 +198,9 @@ close_behind_tuples = refl
 
 -- behind_joined
 pub link_behind : (u : Token) (l : Link) → link_of u ≡ Some l → behind_joined (Some u) ≡ true
-unfolding link_of behind_joined behind_expr behind_table behind_conjunction has or_op begins_alias and_op behind_predicate behind_comparison behind_concatenation compare_op behind_sum concat_op behind_product sum_op behind_factor product_op
+unfolding link_of behind_joined behind_expr behind_table behind_conjunction has or_op begins_alias and_op
+    behind_predicate behind_comparison behind_concatenation compare_op behind_sum concat_op behind_product sum_op
+    behind_factor product_op
 link_behind (t.Sign s.Comma) l e = refl
 link_behind (t.Keyword k.Inner) l e = refl
 link_behind (t.Keyword k.Join) l e = refl
@@ -172,25 +208,35 @@ link_behind _ l e = absurd (let o : None ≡ Some l = e in cc o)
 
 -- behind_from
 pub end_behind_from : (o : Option Token) → behind_statement o ≡ true → behind_from o ≡ true
-unfolding behind_statement behind_from behind_joined has link_of behind_expr behind_table behind_conjunction or_op begins_alias and_op behind_predicate behind_comparison behind_concatenation compare_op behind_sum concat_op behind_product sum_op behind_factor product_op
+unfolding behind_statement behind_from behind_joined has link_of behind_expr behind_table behind_conjunction or_op
+    begins_alias and_op behind_predicate behind_comparison behind_concatenation compare_op behind_sum concat_op
+    behind_product sum_op behind_factor product_op
 end_behind_from None e = refl
 end_behind_from (Some (t.Sign s.Semicolon)) e = refl
 end_behind_from _ e = absurd (false≢true e)
 
 pub for_behind_from : behind_from (Some (t.Keyword k.For)) ≡ true
-unfolding behind_from behind_joined has link_of behind_expr behind_table behind_conjunction or_op begins_alias and_op behind_predicate behind_comparison behind_concatenation compare_op behind_sum concat_op behind_product sum_op behind_factor product_op
+unfolding behind_from behind_joined has link_of behind_expr behind_table behind_conjunction or_op begins_alias and_op
+    behind_predicate behind_comparison behind_concatenation compare_op behind_sum concat_op behind_product sum_op
+    behind_factor product_op
 for_behind_from = refl
 
 pub limit_behind_from : behind_from (Some (t.Keyword k.Limit)) ≡ true
-unfolding behind_from behind_joined has link_of behind_expr behind_table behind_conjunction or_op begins_alias and_op behind_predicate behind_comparison behind_concatenation compare_op behind_sum concat_op behind_product sum_op behind_factor product_op
+unfolding behind_from behind_joined has link_of behind_expr behind_table behind_conjunction or_op begins_alias and_op
+    behind_predicate behind_comparison behind_concatenation compare_op behind_sum concat_op behind_product sum_op
+    behind_factor product_op
 limit_behind_from = refl
 
 pub order_behind_from : behind_from (Some (t.Keyword k.Order)) ≡ true
-unfolding behind_from behind_joined has link_of behind_expr behind_table behind_conjunction or_op begins_alias and_op behind_predicate behind_comparison behind_concatenation compare_op behind_sum concat_op behind_product sum_op behind_factor product_op
+unfolding behind_from behind_joined has link_of behind_expr behind_table behind_conjunction or_op begins_alias and_op
+    behind_predicate behind_comparison behind_concatenation compare_op behind_sum concat_op behind_product sum_op
+    behind_factor product_op
 order_behind_from = refl
 
 pub subselect_end_behind_from : (o : Option Token) → behind_subselect o ≡ true → behind_from o ≡ true
-unfolding behind_subselect behind_from behind_joined has link_of behind_expr behind_table behind_conjunction or_op begins_alias and_op behind_predicate behind_comparison behind_concatenation compare_op behind_sum concat_op behind_product sum_op behind_factor product_op
+unfolding behind_subselect behind_from behind_joined has link_of behind_expr behind_table behind_conjunction or_op
+    begins_alias and_op behind_predicate behind_comparison behind_concatenation compare_op behind_sum concat_op
+    behind_product sum_op behind_factor product_op
 subselect_end_behind_from None e = refl
 subselect_end_behind_from (Some (t.Sign s.Close)) e = refl
 subselect_end_behind_from (Some (t.Sign s.Semicolon)) e = refl
@@ -199,45 +245,63 @@ subselect_end_behind_from (Some (t.Keyword k.Returning)) e = refl
 subselect_end_behind_from _ e = absurd (false≢true e)
 
 pub where_behind_from : behind_from (Some (t.Keyword k.Where)) ≡ true
-unfolding behind_from behind_joined has link_of behind_expr behind_table behind_conjunction or_op begins_alias and_op behind_predicate behind_comparison behind_concatenation compare_op behind_sum concat_op behind_product sum_op behind_factor product_op
+unfolding behind_from behind_joined has link_of behind_expr behind_table behind_conjunction or_op begins_alias and_op
+    behind_predicate behind_comparison behind_concatenation compare_op behind_sum concat_op behind_product sum_op
+    behind_factor product_op
 where_behind_from = refl
 
 -- behind_from_list
 pub end_behind_from_list : (o : Option Token) → behind_statement o ≡ true → behind_from_list o ≡ true
-unfolding behind_statement behind_from_list behind_from is_word behind_joined has link_of spelling behind_expr behind_table behind_conjunction or_op begins_alias and_op behind_predicate behind_comparison behind_concatenation compare_op behind_sum concat_op behind_product sum_op behind_factor product_op
+unfolding behind_statement behind_from_list behind_from is_word behind_joined has link_of spelling behind_expr
+    behind_table behind_conjunction or_op begins_alias and_op behind_predicate behind_comparison behind_concatenation
+    compare_op behind_sum concat_op behind_product sum_op behind_factor product_op
 end_behind_from_list None e = refl
 end_behind_from_list (Some (t.Sign s.Semicolon)) e = refl
 end_behind_from_list _ e = absurd (false≢true e)
 
 pub from_goes_on_from_list : behind_from_list (Some (t.Keyword k.From)) ≡ false
-unfolding behind_from_list behind_from is_word behind_joined has link_of spelling behind_expr behind_table behind_conjunction or_op begins_alias and_op behind_predicate behind_comparison behind_concatenation compare_op behind_sum concat_op behind_product sum_op behind_factor product_op
+unfolding behind_from_list behind_from is_word behind_joined has link_of spelling behind_expr behind_table
+    behind_conjunction or_op begins_alias and_op behind_predicate behind_comparison behind_concatenation compare_op
+    behind_sum concat_op behind_product sum_op behind_factor product_op
 from_goes_on_from_list = refl
 
 pub returning_behind_from_list : behind_from_list (Some (t.Keyword k.Returning)) ≡ true
-unfolding behind_from_list behind_from is_word behind_joined has link_of spelling behind_expr behind_table behind_conjunction or_op begins_alias and_op behind_predicate behind_comparison behind_concatenation compare_op behind_sum concat_op behind_product sum_op behind_factor product_op
+unfolding behind_from_list behind_from is_word behind_joined has link_of spelling behind_expr behind_table
+    behind_conjunction or_op begins_alias and_op behind_predicate behind_comparison behind_concatenation compare_op
+    behind_sum concat_op behind_product sum_op behind_factor product_op
 returning_behind_from_list = refl
 
 pub where_behind_from_list : behind_from_list (Some (t.Keyword k.Where)) ≡ true
-unfolding behind_from_list behind_from is_word behind_joined has link_of spelling behind_expr behind_table behind_conjunction or_op begins_alias and_op behind_predicate behind_comparison behind_concatenation compare_op behind_sum concat_op behind_product sum_op behind_factor product_op
+unfolding behind_from_list behind_from is_word behind_joined has link_of spelling behind_expr behind_table
+    behind_conjunction or_op begins_alias and_op behind_predicate behind_comparison behind_concatenation compare_op
+    behind_sum concat_op behind_product sum_op behind_factor product_op
 where_behind_from_list = refl
 
 -- behind_using_list
 pub end_behind_using_list : (o : Option Token) → behind_statement o ≡ true → behind_using_list o ≡ true
-unfolding behind_statement behind_using_list behind_from is_word behind_joined has link_of spelling behind_expr behind_table behind_conjunction or_op begins_alias and_op behind_predicate behind_comparison behind_concatenation compare_op behind_sum concat_op behind_product sum_op behind_factor product_op
+unfolding behind_statement behind_using_list behind_from is_word behind_joined has link_of spelling behind_expr
+    behind_table behind_conjunction or_op begins_alias and_op behind_predicate behind_comparison behind_concatenation
+    compare_op behind_sum concat_op behind_product sum_op behind_factor product_op
 end_behind_using_list None e = refl
 end_behind_using_list (Some (t.Sign s.Semicolon)) e = refl
 end_behind_using_list _ e = absurd (false≢true e)
 
 pub returning_behind_using_list : behind_using_list (Some (t.Keyword k.Returning)) ≡ true
-unfolding behind_using_list behind_from is_word behind_joined has link_of spelling behind_expr behind_table behind_conjunction or_op begins_alias and_op behind_predicate behind_comparison behind_concatenation compare_op behind_sum concat_op behind_product sum_op behind_factor product_op
+unfolding behind_using_list behind_from is_word behind_joined has link_of spelling behind_expr behind_table
+    behind_conjunction or_op begins_alias and_op behind_predicate behind_comparison behind_concatenation compare_op
+    behind_sum concat_op behind_product sum_op behind_factor product_op
 returning_behind_using_list = refl
 
 pub using_goes_on_using_list : behind_using_list (Some (t.Keyword k.Using)) ≡ false
-unfolding behind_using_list behind_from is_word behind_joined has link_of spelling behind_expr behind_table behind_conjunction or_op begins_alias and_op behind_predicate behind_comparison behind_concatenation compare_op behind_sum concat_op behind_product sum_op behind_factor product_op
+unfolding behind_using_list behind_from is_word behind_joined has link_of spelling behind_expr behind_table
+    behind_conjunction or_op begins_alias and_op behind_predicate behind_comparison behind_concatenation compare_op
+    behind_sum concat_op behind_product sum_op behind_factor product_op
 using_goes_on_using_list = refl
 
 pub where_behind_using_list : behind_using_list (Some (t.Keyword k.Where)) ≡ true
-unfolding behind_using_list behind_from is_word behind_joined has link_of spelling behind_expr behind_table behind_conjunction or_op begins_alias and_op behind_predicate behind_comparison behind_concatenation compare_op behind_sum concat_op behind_product sum_op behind_factor product_op
+unfolding behind_using_list behind_from is_word behind_joined has link_of spelling behind_expr behind_table
+    behind_conjunction or_op begins_alias and_op behind_predicate behind_comparison behind_concatenation compare_op
+    behind_sum concat_op behind_product sum_op behind_factor product_op
 where_behind_using_list = refl
 
 -- behind_subselect
@@ -257,21 +321,29 @@ nulls_goes_on_nulls = refl
 
 -- behind_order
 pub end_behind_order : (o : Option Token) → behind_statement o ≡ true → behind_order o ≡ true
-unfolding behind_statement behind_order behind_list behind_order_key is_word is_comma behind_direction behind_expr behind_nulls spelling direction_of has behind_conjunction or_op and_op behind_predicate behind_comparison behind_concatenation compare_op behind_sum concat_op behind_product sum_op behind_factor product_op
+unfolding behind_statement behind_order behind_list behind_order_key is_word is_comma behind_direction behind_expr
+    behind_nulls spelling direction_of has behind_conjunction or_op and_op behind_predicate behind_comparison
+    behind_concatenation compare_op behind_sum concat_op behind_product sum_op behind_factor product_op
 end_behind_order None e = refl
 end_behind_order (Some (t.Sign s.Semicolon)) e = refl
 end_behind_order _ e = absurd (false≢true e)
 
 pub for_behind_order : behind_order (Some (t.Keyword k.For)) ≡ true
-unfolding behind_order behind_list behind_order_key is_word is_comma behind_direction behind_expr behind_nulls spelling direction_of has behind_conjunction or_op and_op behind_predicate behind_comparison behind_concatenation compare_op behind_sum concat_op behind_product sum_op behind_factor product_op
+unfolding behind_order behind_list behind_order_key is_word is_comma behind_direction behind_expr behind_nulls spelling
+    direction_of has behind_conjunction or_op and_op behind_predicate behind_comparison behind_concatenation compare_op
+    behind_sum concat_op behind_product sum_op behind_factor product_op
 for_behind_order = refl
 
 pub limit_behind_order : behind_order (Some (t.Keyword k.Limit)) ≡ true
-unfolding behind_order behind_list behind_order_key is_word is_comma behind_direction behind_expr behind_nulls spelling direction_of has behind_conjunction or_op and_op behind_predicate behind_comparison behind_concatenation compare_op behind_sum concat_op behind_product sum_op behind_factor product_op
+unfolding behind_order behind_list behind_order_key is_word is_comma behind_direction behind_expr behind_nulls spelling
+    direction_of has behind_conjunction or_op and_op behind_predicate behind_comparison behind_concatenation compare_op
+    behind_sum concat_op behind_product sum_op behind_factor product_op
 limit_behind_order = refl
 
 pub order_goes_on_order : behind_order (Some (t.Keyword k.Order)) ≡ false
-unfolding behind_order behind_list behind_order_key is_word is_comma behind_direction behind_expr behind_nulls spelling direction_of has behind_conjunction or_op and_op behind_predicate behind_comparison behind_concatenation compare_op behind_sum concat_op behind_product sum_op behind_factor product_op
+unfolding behind_order behind_list behind_order_key is_word is_comma behind_direction behind_expr behind_nulls spelling
+    direction_of has behind_conjunction or_op and_op behind_predicate behind_comparison behind_concatenation compare_op
+    behind_sum concat_op behind_product sum_op behind_factor product_op
 order_goes_on_order = refl
 
 -- behind_limit
@@ -284,10 +356,6 @@ end_behind_limit _ e = absurd (false≢true e)
 pub for_behind_limit : behind_limit (Some (t.Keyword k.For)) ≡ true
 unfolding behind_limit is_word spelling
 for_behind_limit = refl
-
-pub limit_goes_on_limit : behind_limit (Some (t.Keyword k.Limit)) ≡ false
-unfolding behind_limit is_word spelling
-limit_goes_on_limit = refl
 
 -- behind_wait
 pub nowait_goes_on_wait : behind_wait (Some (t.Keyword k.Nowait)) ≡ false
@@ -314,10 +382,6 @@ end_behind_locking None e = refl
 end_behind_locking (Some (t.Sign s.Semicolon)) e = refl
 end_behind_locking _ e = absurd (false≢true e)
 
-pub for_goes_on_locking : behind_locking (Some (t.Keyword k.For)) ≡ false
-unfolding behind_locking behind_locked is_word behind_of behind_wait spelling
-for_goes_on_locking = refl
-
 -- behind_rows
 pub end_behind_rows : (o : Option Token) → behind_statement o ≡ true → behind_rows o ≡ true
 unfolding behind_statement behind_rows behind_subselect behind_tuples behind_list is_comma
@@ -335,50 +399,70 @@ returning_behind_rows = refl
 
 -- behind_target
 pub do_behind_target : behind_target (Some (t.Keyword k.Do)) ≡ true
-unfolding behind_target behind_condition is_word behind_expr spelling behind_conjunction has or_op and_op behind_predicate behind_comparison behind_concatenation compare_op behind_sum concat_op behind_product sum_op behind_factor product_op
+unfolding behind_target behind_condition is_word behind_expr spelling behind_conjunction has or_op and_op
+    behind_predicate behind_comparison behind_concatenation compare_op behind_sum concat_op behind_product sum_op
+    behind_factor product_op
 do_behind_target = refl
 
 pub on_goes_on_target : behind_target (Some (t.Keyword k.On)) ≡ false
-unfolding behind_target behind_condition is_word behind_expr spelling behind_conjunction has or_op and_op behind_predicate behind_comparison behind_concatenation compare_op behind_sum concat_op behind_product sum_op behind_factor product_op
+unfolding behind_target behind_condition is_word behind_expr spelling behind_conjunction has or_op and_op
+    behind_predicate behind_comparison behind_concatenation compare_op behind_sum concat_op behind_product sum_op
+    behind_factor product_op
 on_goes_on_target = refl
 
 pub open_goes_on_target : behind_target (Some (t.Sign s.Open)) ≡ false
-unfolding behind_target behind_condition is_word behind_expr spelling behind_conjunction has or_op and_op behind_predicate behind_comparison behind_concatenation compare_op behind_sum concat_op behind_product sum_op behind_factor product_op
+unfolding behind_target behind_condition is_word behind_expr spelling behind_conjunction has or_op and_op
+    behind_predicate behind_comparison behind_concatenation compare_op behind_sum concat_op behind_product sum_op
+    behind_factor product_op
 open_goes_on_target = refl
 
 -- behind_on_conflict
 pub end_behind_on_conflict : (o : Option Token) → behind_statement o ≡ true → behind_on_conflict o ≡ true
-unfolding behind_statement behind_on_conflict behind_conflict is_word behind_sets spelling behind_expr behind_list behind_conjunction has or_op is_comma and_op behind_predicate behind_comparison behind_concatenation compare_op behind_sum concat_op behind_product sum_op behind_factor product_op
+unfolding behind_statement behind_on_conflict behind_conflict is_word behind_sets spelling behind_expr behind_list
+    behind_conjunction has or_op is_comma and_op behind_predicate behind_comparison behind_concatenation compare_op
+    behind_sum concat_op behind_product sum_op behind_factor product_op
 end_behind_on_conflict None e = refl
 end_behind_on_conflict (Some (t.Sign s.Semicolon)) e = refl
 end_behind_on_conflict _ e = absurd (false≢true e)
 
 pub on_goes_on_on_conflict : behind_on_conflict (Some (t.Keyword k.On)) ≡ false
-unfolding behind_on_conflict behind_conflict is_word behind_sets spelling behind_expr behind_list behind_conjunction has or_op is_comma and_op behind_predicate behind_comparison behind_concatenation compare_op behind_sum concat_op behind_product sum_op behind_factor product_op
+unfolding behind_on_conflict behind_conflict is_word behind_sets spelling behind_expr behind_list behind_conjunction has
+    or_op is_comma and_op behind_predicate behind_comparison behind_concatenation compare_op behind_sum concat_op
+    behind_product sum_op behind_factor product_op
 on_goes_on_on_conflict = refl
 
 pub returning_behind_on_conflict : behind_on_conflict (Some (t.Keyword k.Returning)) ≡ true
-unfolding behind_on_conflict behind_conflict is_word behind_sets spelling behind_expr behind_list behind_conjunction has or_op is_comma and_op behind_predicate behind_comparison behind_concatenation compare_op behind_sum concat_op behind_product sum_op behind_factor product_op
+unfolding behind_on_conflict behind_conflict is_word behind_sets spelling behind_expr behind_list behind_conjunction has
+    or_op is_comma and_op behind_predicate behind_comparison behind_concatenation compare_op behind_sum concat_op
+    behind_product sum_op behind_factor product_op
 returning_behind_on_conflict = refl
 
 -- behind_guard
 pub then_behind_guard : behind_guard (Some (t.Keyword k.Then)) ≡ true
-unfolding behind_guard behind_expr is_word behind_conjunction has or_op spelling and_op behind_predicate behind_comparison behind_concatenation compare_op behind_sum concat_op behind_product sum_op behind_factor product_op
+unfolding behind_guard behind_expr is_word behind_conjunction has or_op spelling and_op behind_predicate
+    behind_comparison behind_concatenation compare_op behind_sum concat_op behind_product sum_op behind_factor
+    product_op
 then_behind_guard = refl
 
 -- behind_whens
 pub end_behind_whens : (o : Option Token) → behind_statement o ≡ true → behind_whens o ≡ true
-unfolding behind_statement behind_whens behind_sets is_word behind_expr behind_list spelling behind_conjunction has or_op is_comma and_op behind_predicate behind_comparison behind_concatenation compare_op behind_sum concat_op behind_product sum_op behind_factor product_op
+unfolding behind_statement behind_whens behind_sets is_word behind_expr behind_list spelling behind_conjunction has
+    or_op is_comma and_op behind_predicate behind_comparison behind_concatenation compare_op behind_sum concat_op
+    behind_product sum_op behind_factor product_op
 end_behind_whens None e = refl
 end_behind_whens (Some (t.Sign s.Semicolon)) e = refl
 end_behind_whens _ e = absurd (false≢true e)
 
 pub returning_behind_whens : behind_whens (Some (t.Keyword k.Returning)) ≡ true
-unfolding behind_whens behind_sets is_word behind_expr behind_list spelling behind_conjunction has or_op is_comma and_op behind_predicate behind_comparison behind_concatenation compare_op behind_sum concat_op behind_product sum_op behind_factor product_op
+unfolding behind_whens behind_sets is_word behind_expr behind_list spelling behind_conjunction has or_op is_comma and_op
+    behind_predicate behind_comparison behind_concatenation compare_op behind_sum concat_op behind_product sum_op
+    behind_factor product_op
 returning_behind_whens = refl
 
 pub when_goes_on_whens : behind_whens (Some (t.Keyword k.When)) ≡ false
-unfolding behind_whens behind_sets is_word behind_expr behind_list spelling behind_conjunction has or_op is_comma and_op behind_predicate behind_comparison behind_concatenation compare_op behind_sum concat_op behind_product sum_op behind_factor product_op
+unfolding behind_whens behind_sets is_word behind_expr behind_list spelling behind_conjunction has or_op is_comma and_op
+    behind_predicate behind_comparison behind_concatenation compare_op behind_sum concat_op behind_product sum_op
+    behind_factor product_op
 when_goes_on_whens = refl
 
 -- behind_constraint_name

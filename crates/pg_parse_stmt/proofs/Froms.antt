@@ -14,7 +14,7 @@ use Rattle.pg_lexer.specs.declared.token.Token.TheVariants as t
 use Rattle.pg_parse_expr.specs.Behind.{has, behind_expr}
 use Rattle.pg_parse_expr.specs.Grammar.{expr}
 use Rattle.pg_parse_expr.specs.Tree.{Tree}
-use Rattle.pg_parse_stmt.specs.Behind.{any, begins_alias, behind_table, behind_joined, behind_from}
+use Rattle.pg_parse_stmt.specs.Behind.{any, behind_table, behind_joined, behind_from}
 use Rattle.pg_parse_stmt.specs.Grammar.{one_source, SourceRule, sources_in, joined, alone, linked, next_source, from_of}
 use Rattle.pg_parse_stmt.specs.Spellings.{spelled_expr}
 use Rattle.pg_parse_stmt.specs.Words.{link_of}
@@ -24,11 +24,7 @@ use Rattle.pg_parse_stmt.specs.declared.word.Link.{Link}
 use Rattle.pg_parse_stmt.specs.declared.word.Link.TheVariants as link
 use Rattle.pg_parse_stmt.proofs.Lists.{starts_any, and_left}
 use Rattle.pg_parse_stmt.proofs.Steps.{word_read, word_missed, part_read, and_right}
-use Rattle.pg_parse_stmt.proofs.Following.{link_behind}
-
-at_on : behind_table (Some (t.Keyword k.On)) ≡ true
-unfolding behind_table begins_alias
-at_on = refl
+use Rattle.pg_parse_stmt.proofs.Following.{link_behind, on_behind_table}
 
 joined_expr : (o : Option Token) → behind_joined o ≡ true → behind_expr o ≡ true
 unfolding behind_joined
@@ -126,7 +122,7 @@ module _ {S : Type 0} (source : Lang Token S) (spelled_source : Spelled source) 
 
   starts_behind : (x : S) → Starts behind_table (joined_behind x) behind_expr
   unfolding joined_behind
-  starts_behind x = starts_token behind_table behind_expr (t.Keyword k.On) (joined_on x) at_on
+  starts_behind x = starts_token behind_table behind_expr (t.Keyword k.On) (joined_on x) on_behind_table
 
   pub joined_not_read : (xs : List Token) (f : Fault) → Reads source behind_table xs (failed f) →
       Reads (joined source) behind_expr xs (failed f)

@@ -23,7 +23,7 @@ use Rattle.pg_grammar.proofs.Words.{spelled_left, bars_either}
 use Rattle.pg_parse_stmt.specs.Behind.{behind_columns}
 use Rattle.pg_grammar.proofs.Leading.{Leads, reads_narrow}
 use Rattle.pg_parse_stmt.specs.Grammar.{name, names, tuples, sets, element, elements, condition, subselect, rows, target_elements, target_constraint, conflict_target, upsert, conflict_act, conflict, columns, as_name, returning, insert}
-use Rattle.pg_parse_stmt.specs.Spellings.{spelled_tuples, spelled_sets, spelled_elements}
+use Rattle.pg_parse_stmt.specs.Spellings.{spelled_tuples, spelled_sets}
 use Rattle.pg_parse_stmt.specs.declared.tree.Item.{Item}
 use Rattle.pg_parse_stmt.specs.declared.tree.Assignment.{Assignment}
 use Rattle.pg_parse_stmt.specs.declared.tree.Element.{Element}
@@ -69,12 +69,6 @@ starts_values_made v = starts_gives behind_tuples behind_rows (rows_of.Values v)
 starts_query_made : (v : Subselect) → Starts behind_subselect (query_made v) behind_rows
 unfolding query_made
 starts_query_made v = starts_gives behind_subselect behind_rows (rows_of.Query v) rows_subselect
-
-values_rows : Lang Token Rows
-values_rows = word k.Values (bind tuples values_made)
-
-query_rows : Lang Token Rows
-query_rows = word k.Select (bind (subselect 0) query_made)
 
 pub spelled_rows : Spelled rows
 unfolding rows values_made query_made
@@ -171,11 +165,6 @@ spelled_target_after_elements listed =
     spelled_bind condition (target_after_condition listed) spelled_where
     (λ predicate. spelled_target_after_condition listed predicate)
 
-pub spelled_target_elements : Spelled target_elements
-unfolding target_elements target_after_elements target_after_condition target_elements_made
-spelled_target_elements =
-    spelled_bind elements target_after_elements spelled_elements (λ listed. spelled_target_after_elements listed)
-
 starts_target_after_elements : (listed : List Element) → Starts any (target_after_elements listed) behind_condition
 unfolding target_after_elements target_after_condition target_elements_made
 starts_target_after_elements listed = starts_any (target_after_elements listed) behind_condition
@@ -245,10 +234,6 @@ spelled_target_after_on : Spelled target_after_on
 unfolding target_after_on
 spelled_target_after_on = spelled_token (t.Keyword k.Constraint) target_after_constraint spelled_target_after_constraint
 
-pub spelled_target_constraint : Spelled target_constraint
-unfolding target_constraint target_after_on target_after_constraint target_after_name target_constraint_made
-spelled_target_constraint = spelled_token (t.Keyword k.On) target_after_on spelled_target_after_on
-
 starts_target_after_name : (named : List ℕ) → Starts any (target_after_name named) any
 unfolding target_after_on target_after_constraint target_after_name target_constraint_made
 starts_target_after_name named = starts_any (target_after_name named) any
@@ -294,9 +279,6 @@ target_constraint_whole xs after_on after_constraint rest named at_on at_constra
     (part_read name target_after_name any any after_constraint rest named (read (target_of.Constraint named) rest)
     reads_name (λ named. starts_target_after_name named)
     (reads_gives (target_constraint_made named) (target_constraint_made named) any rest refl)))
-
-target_open : (xs ys : List Token) → xs ≡ t.Sign s.Open ∷ ys → Misses (t.Keyword k.On) xs
-target_open xs ys e = record { misses = λ n. cc (e, n) }
 
 target_condition : (o : Option Token) → behind_target o ≡ true → behind_condition o ≡ true
 unfolding behind_target
@@ -355,7 +337,8 @@ target_failed : (xs : List Token) (f : Fault) → behind_target (next xs) ≡ fa
     Reads (optional conflict_target) behind_target xs (failed f)
 target_failed xs f h r =
     (leads_target xs h).to (failed f)
-    (reads_bind_failed conflict_target some_target behind_condition behind_target xs f r starts_some_target spelled_some_target)
+    (reads_bind_failed conflict_target some_target behind_condition behind_target xs f r starts_some_target
+    spelled_some_target)
 
 open_on : (xs ys : List Token) → xs ≡ t.Sign s.Open ∷ ys → behind_target (next xs) ≡ false
 open_on xs ys e = ap (λ x. behind_target (next x)) e ∙ open_goes_on_target
@@ -447,11 +430,6 @@ spelled_upsert_after_update : (target : ConflictTarget) → Spelled (upsert_afte
 unfolding upsert_after_update
 spelled_upsert_after_update target =
     spelled_token (t.Keyword k.Set) (upsert_after_set target) (spelled_upsert_after_set target)
-
-pub spelled_upsert : (target : ConflictTarget) → Spelled (upsert target)
-unfolding upsert upsert_after_update upsert_after_set upsert_after_sets upsert_after_condition upsert_made
-spelled_upsert target =
-    spelled_token (t.Keyword k.Update) (upsert_after_update target) (spelled_upsert_after_update target)
 
 behind_conflict_behind_sets : (o : Option Token) → behind_conflict o ≡ true → behind_sets o ≡ true
 unfolding behind_conflict
@@ -628,12 +606,6 @@ spelled_target_then : Spelled target_then
 unfolding target_then
 spelled_target_then = spelled_bind (optional conflict_target) act_behind spelled_target spelled_act_behind
 
-pub spelled_conflict : Spelled conflict
-unfolding conflict target_then act_behind
-spelled_conflict =
-    spelled_token (t.Keyword k.On) (word k.Conflict target_then)
-    (spelled_token (t.Keyword k.Conflict) target_then spelled_target_then)
-
 on_conflict : (o : Option Token) → behind_on_conflict o ≡ true → behind_conflict o ≡ true
 unfolding behind_on_conflict
 on_conflict o e = and_left (behind_conflict o) (not (is_word k.On o)) e
@@ -738,10 +710,6 @@ starts_conflict : (b : Option Token → Bool) → b (Some (t.Keyword k.On)) ≡ 
 unfolding conflict target_then act_behind
 starts_conflict b h = starts_optional (t.Keyword k.On) (word k.Conflict target_then) b h
 
-starts_as_name : (b : Option Token → Bool) → b (Some (t.Keyword k.As)) ≡ true → Starts b as_name b
-unfolding as_name
-starts_as_name b h = starts_optional (t.Keyword k.As) name b h
-
 starts_columns : (b : Option Token → Bool) → b (Some (t.Sign s.Open)) ≡ true → Starts b columns b
 unfolding columns in_brackets
 starts_columns b h = starts_or [] (t.Sign s.Open) (bind names (λ v. sign s.Close (gives v))) b h
@@ -749,10 +717,6 @@ starts_columns b h = starts_or [] (t.Sign s.Open) (bind names (λ v. sign s.Clos
 pub spelled_columns : Spelled columns
 unfolding columns
 spelled_columns = spelled_or_else [] (in_brackets names)
-
-starts_rows_of : (b g : Option Token → Bool) → b (Some (t.Keyword k.Values)) ≡ true →
-    b (Some (t.Keyword k.Select)) ≡ true → Starts b rows g
-starts_rows_of b g h i = starts_rows b h i g
 
 -- INTO name [AS name] ["(" names ")"] rows [ON CONFLICT ..] [RETURNING items], behind INSERT
 insert_made : (table : List ℕ) → (alias : Option (List ℕ)) → (listed : List (List ℕ)) → (proposed : Rows) →
@@ -849,7 +813,7 @@ starts_insert_after_alias table alias =
     starts_bind behind_as behind_as behind_statement columns (insert_after_columns table alias)
     (starts_columns behind_as open_behind_as)
     (λ listed. starts_bind behind_as any behind_statement rows (insert_after_rows table alias listed)
-    (starts_rows_of behind_as any values_behind_as select_behind_as)
+    (starts_rows behind_as values_behind_as select_behind_as any)
     (λ proposed. starts_any (insert_after_rows table alias listed proposed) behind_statement))
 
 starts_insert_after_columns : (table : List ℕ) → (alias : Option (List ℕ)) → (listed : List (List ℕ)) →
@@ -858,7 +822,7 @@ unfolding insert_after_into insert_after_table insert_after_alias insert_after_c
     insert_after_conflict insert_after_returning insert_made
 starts_insert_after_columns table alias listed =
     starts_bind behind_columns any behind_statement rows (insert_after_rows table alias listed)
-    (starts_rows_of behind_columns any values_behind_columns select_behind_columns)
+    (starts_rows behind_columns values_behind_columns select_behind_columns any)
     (λ proposed. starts_any (insert_after_rows table alias listed proposed) behind_statement)
 
 starts_insert_after_rows : (table : List ℕ) → (alias : Option (List ℕ)) → (listed : List (List ℕ)) → (proposed : Rows) →

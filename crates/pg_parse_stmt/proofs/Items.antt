@@ -15,7 +15,7 @@ use Rattle.pg_parse_expr.specs.Behind.{has, behind_factor, behind_product, behin
 use Rattle.pg_parse_expr.specs.Grammar.{expr}
 use Rattle.pg_parse_expr.specs.Operators.{name_of, or_op, and_op, compare_op, concat_op, sum_op, product_op}
 use Rattle.pg_parse_expr.specs.Tree.{Tree}
-use Rattle.pg_parse_stmt.specs.Behind.{any, behind_as, behind_item}
+use Rattle.pg_parse_stmt.specs.Behind.{any, behind_item}
 use Rattle.pg_parse_stmt.specs.Forms.{word, sign, optional}
 use Rattle.pg_parse_stmt.proofs.Lists.{starts_any, and_left}
 use Rattle.pg_parse_stmt.proofs.Steps.{word_read, part_read, starts_optional}
@@ -43,6 +43,7 @@ use Rattle.pg_parse_stmt.specs.Grammar.{name, as_name, all_of, named_expr, item}
 use Rattle.pg_parse_stmt.specs.declared.tree.Item.{Item}
 use Rattle.pg_parse_stmt.specs.declared.tree.Item.TheVariants as item_of
 use Rattle.pg_parse_stmt.proofs.Tables.{some_name, no_name_first}
+use Rattle.pg_parse_stmt.proofs.Naming.{behind_item_behind_expr}
 use Rattle.pg_parse_stmt.proofs.Following.{as_behind_expr, none_follows}
 
 -- what bars the leaves of expressions, and is no minus sign, bracket or NOT, bars expressions
@@ -57,12 +58,14 @@ module _ (op : Token → Option BinaryOp) (operand : Rule) (before behind : Opti
       (λ a. starts_operation op operand before d a before goes_on) below)
 
 or_before : (u : Token) (x : BinaryOp) → or_op u ≡ Some x → behind_conjunction (Some u) ≡ true
-unfolding or_op and_op compare_op concat_op sum_op product_op has behind_factor behind_product behind_sum behind_concatenation behind_comparison behind_predicate behind_conjunction
+unfolding or_op and_op compare_op concat_op sum_op product_op has behind_factor behind_product behind_sum
+    behind_concatenation behind_comparison behind_predicate behind_conjunction
 or_before (t.Keyword k.Or) x e = refl
 or_before _ x e = absurd (cc e)
 
 and_before : (u : Token) (x : BinaryOp) → and_op u ≡ Some x → behind_predicate (Some u) ≡ true
-unfolding and_op compare_op concat_op sum_op product_op has behind_factor behind_product behind_sum behind_concatenation behind_comparison behind_predicate
+unfolding and_op compare_op concat_op sum_op product_op has behind_factor behind_product behind_sum behind_concatenation
+    behind_comparison behind_predicate
 and_before (t.Keyword k.And) x e = refl
 and_before _ x e = absurd (cc e)
 
@@ -167,10 +170,6 @@ module _ (j : ℕ) (xs : List Token) (no_minus : next xs ≡ Some (t.Sign s.Minu
       bars_chain or_op (conjunction factor) behind_conjunction behind_expr or_below or_before 0 (suc j) xs
       (bars_conjunction 0)
 
-item_expr_below : (o : Option Token) → behind_item o ≡ true → behind_expr o ≡ true
-unfolding behind_item
-item_expr_below o e = and_left (behind_expr o) (behind_as o) e
-
 named_behind : Tree → Lang Token Item
 named_behind e = bind as_name (λ n. gives (item_of.Expr e n))
 
@@ -179,7 +178,7 @@ unfolding named_behind as_name
 starts_behind e =
     starts_bind behind_expr behind_expr behind_item (optional (word k.As name)) (λ n. gives (item_of.Expr e n))
     (starts_optional (t.Keyword k.As) name behind_expr as_behind_expr)
-    (λ n. starts_gives behind_expr behind_item (item_of.Expr e n) item_expr_below)
+    (λ n. starts_gives behind_expr behind_item (item_of.Expr e n) behind_item_behind_expr)
 
 bars_named_expr : (j : ℕ) (xs : List Token) → Bars expr behind_expr j xs → Bars named_expr behind_item j xs
 unfolding named_expr named_behind
@@ -381,7 +380,8 @@ unfolding chain
 chain_word op operand d m xs v z l = (v, z, l, (zero, (refl, refl)))
 
 leaf_word : (m : Limit → ℕ) (xs : List Token) (v : Tree) → leaf 0 m xs v [] → named_expr m xs (item_of.Expr v None) []
-unfolding named_expr as_name expr expr_at disjunction conjunction negation negation_over predicate comparison compared concatenation sum product factor factor_over
+unfolding named_expr as_name expr expr_at disjunction conjunction negation negation_over predicate comparison compared
+    concatenation sum product factor factor_over
 leaf_word m xs v l =
     let f : factor 0 m xs v [] = (suc zero, inr (inl (inl l))) in
     let c =

@@ -1,6 +1,5 @@
 -- FOR and what stands behind it
-use Rattle.std.proofs.Common.{◌≡◌, ◌∷◌, ℕ, Bool, true, List, length, Option, Some, None, refl, sym, ap, ◌∙◌}
-use Rattle.std.specs.Prelude.{not}
+use Rattle.std.proofs.Common.{◌≡◌, ◌∷◌, ℕ, Bool, true, List, length, Option, Some, refl, sym, ap, ◌∙◌}
 use Rattle.pg_grammar.specs.declared.fault.Fault.{Fault}
 use Rattle.pg_grammar.specs.declared.fault.Fault.TheVariants.{Syntax}
 use Rattle.pg_grammar.specs.Languages.{Lang, gives, one, bind, either}
@@ -10,29 +9,20 @@ use Rattle.pg_grammar.proofs.Combining.{reads_gives, reads_bind_failed, leads_le
 use Rattle.pg_lexer.specs.declared.keyword.Keyword.TheVariants as k
 use Rattle.pg_lexer.specs.declared.token.Token.{Token}
 use Rattle.pg_lexer.specs.declared.token.Token.TheVariants as t
-use Rattle.pg_parse_stmt.specs.Behind.{any, is_word, behind_wait, behind_of, behind_locked, behind_locking}
+use Rattle.pg_parse_stmt.specs.Behind.{any, behind_wait, behind_of, behind_locked}
 use Rattle.pg_parse_stmt.specs.Forms.{word}
 use Rattle.pg_parse_stmt.specs.Spellings.{spelled_or_else, spelled_optional}
 use Rattle.pg_parse_stmt.proofs.Lists.{starts_any, and_left}
-use Rattle.pg_parse_stmt.proofs.Steps.{word_read, word_missed, part_read, some_read, some_failed, none_read, starts_optional, and_right}
+use Rattle.pg_parse_stmt.proofs.Steps.{word_read, word_missed, part_read, starts_optional, and_right}
 use Rattle.pg_parse_stmt.specs.Grammar.{name, strength_behind, strength, of_table, lock_wait, locked, locking}
-use Rattle.pg_parse_stmt.specs.Spellings.{spelled_strength as spelled_strength_word}
+use Rattle.pg_parse_stmt.specs.Spellings.{spelled_strength as spelled_strength_word, spelled_strength_behind}
 use Rattle.pg_parse_stmt.specs.Words.{strength_of}
 use Rattle.pg_parse_stmt.specs.declared.tree.LockStrength.{LockStrength}
 use Rattle.pg_parse_stmt.specs.declared.tree.LockStrength.TheVariants as lock
 use Rattle.pg_parse_stmt.specs.declared.tree.LockWait.{LockWait}
 use Rattle.pg_parse_stmt.specs.declared.tree.LockWait.TheVariants as wait_of
 use Rattle.pg_parse_stmt.specs.declared.tree.Locking.{Locking}
-use Rattle.pg_parse_stmt.proofs.Following.{for_goes_on_locking, nowait_behind_of, nowait_goes_on_wait, skip_behind_of, skip_goes_on_wait}
-
-spelled_behind : (v : LockStrength) → Spelled (strength_behind v)
-unfolding strength_behind
-spelled_behind lock.KeyShare = spelled_token (t.Keyword k.Share) (gives lock.KeyShare) (spelled_gives lock.KeyShare)
-spelled_behind lock.Share = spelled_gives lock.Share
-spelled_behind lock.NoKeyUpdate =
-    spelled_token (t.Keyword k.Key) (word k.Update (gives lock.NoKeyUpdate))
-    (spelled_token (t.Keyword k.Update) (gives lock.NoKeyUpdate) (spelled_gives lock.NoKeyUpdate))
-spelled_behind lock.Update = spelled_gives lock.Update
+use Rattle.pg_parse_stmt.proofs.Following.{nowait_behind_of, nowait_goes_on_wait, skip_behind_of, skip_goes_on_wait}
 
 module _ (xs ys zs : List Token) (l : ℕ) where
   pub key_share : xs ≡ t.Keyword k.Share ∷ ys → Reads (strength_behind lock.KeyShare) any xs (read lock.KeyShare ys)
@@ -89,15 +79,11 @@ pub strength_failed : (xs : List Token) (f : Fault) → Reads (one strength_of) 
 unfolding strength
 strength_failed xs f r =
     reads_bind_failed (one strength_of) strength_behind any any xs f r
-    (λ u. starts_any (strength_behind u) any) spelled_behind
+    (λ u. starts_any (strength_behind u) any) spelled_strength_behind
 
 spelled_strength : Spelled strength
 unfolding strength
-spelled_strength = spelled_bind (one strength_of) strength_behind spelled_strength_word spelled_behind
-
-pub starts_of : (b : Option Token → Bool) → b (Some (t.Keyword k.Of)) ≡ true → Starts b of_table b
-unfolding of_table
-starts_of b h = starts_optional (t.Keyword k.Of) (name) b h
+spelled_strength = spelled_bind (one strength_of) strength_behind spelled_strength_word spelled_strength_behind
 
 pub spelled_of : Spelled of_table
 unfolding of_table
@@ -216,11 +202,6 @@ unfolding locked_after_strength
 spelled_locked_after_strength mode =
     spelled_bind of_table (locked_after_table mode) spelled_of (λ table. spelled_locked_after_table mode table)
 
-pub spelled_locked : Spelled locked
-unfolding locked locked_after_strength locked_after_table locked_after_wait locked_made
-spelled_locked =
-    spelled_bind strength locked_after_strength spelled_strength (λ mode. spelled_locked_after_strength mode)
-
 starts_locked_after_strength : (mode : LockStrength) → Starts any (locked_after_strength mode) behind_locked
 unfolding locked_after_strength locked_after_table locked_after_wait locked_made
 starts_locked_after_strength mode = starts_any (locked_after_strength mode) behind_locked
@@ -287,28 +268,6 @@ locked_whole xs after_strength after_table rest mode table wait reads_strength r
     (part_read lock_wait (locked_after_wait mode table) behind_wait behind_locked after_table rest wait
     (read (locked_made mode table wait) rest) reads_wait (λ wait. starts_locked_after_wait mode table wait)
     (reads_gives (locked_made mode table wait) (locked_made mode table wait) behind_locked rest refl)))
-
-locking_below : (o : Option Token) → behind_locking o ≡ true → behind_locked o ≡ true
-unfolding behind_locking
-locking_below o e = and_left (behind_locked o) (not (is_word k.For o)) e
-
-pub locking_read : (xs ys zs : List Token) (v : Locking) → xs ≡ (t.Keyword k.For) ∷ ys →
-    Reads (locked) behind_locked ys (read v zs) →
-    Reads locking behind_locking xs (read (Some v) zs)
-unfolding locking
-locking_read xs ys zs v e r =
-    some_read (t.Keyword k.For) (locked) behind_locked behind_locking locking_below xs ys zs v for_goes_on_locking e r
-
-pub locking_failed : (xs ys : List Token) (f : Fault) → xs ≡ (t.Keyword k.For) ∷ ys →
-    Reads (locked) behind_locked ys (failed f) →
-    Reads locking behind_locking xs (failed f)
-unfolding locking
-locking_failed xs ys f e r =
-    some_failed (t.Keyword k.For) (locked) behind_locked behind_locking locking_below xs ys f for_goes_on_locking e r
-
-pub locking_none : (xs : List Token) → Misses (t.Keyword k.For) xs → Reads locking behind_locking xs (read None xs)
-unfolding locking
-locking_none xs miss = none_read (t.Keyword k.For) (locked) behind_locking xs miss
 
 pub starts_locking : (b : Option Token → Bool) → b (Some (t.Keyword k.For)) ≡ true → Starts b locking b
 unfolding locking

@@ -273,10 +273,6 @@ spelled_addition_after_do : Spelled addition_after_do
 unfolding addition_after_do
 spelled_addition_after_do = spelled_token (t.Keyword k.Nothing) addition_after_nothing spelled_addition_after_nothing
 
-pub spelled_addition_nothing : Spelled addition_nothing
-unfolding addition_nothing addition_after_do addition_after_nothing addition_nothing_made
-spelled_addition_nothing = spelled_token (t.Keyword k.Do) addition_after_do spelled_addition_after_do
-
 pub addition_nothing_no_do : (xs : List Token) (l : ℕ) → Misses (t.Keyword k.Do) xs →
     l ≡ length xs →
     Reads addition_nothing any xs (failed (Syntax l))
@@ -590,10 +586,6 @@ not_matched_plain xs o miss r =
 
 not_words : Lang Token When
 not_words = word k.Matched not_matched
-
-spelled_not_words : Spelled not_words
-unfolding not_words
-spelled_not_words = spelled_token (t.Keyword k.Matched) not_matched spelled_not_matched
 
 pub spelled_when_behind : Spelled when_behind
 unfolding when_behind not_words

@@ -1,6 +1,5 @@
 -- expr [AS name]
-use Rattle.std.proofs.Common.{◌≡◌, ℕ, Bool, true, false, List, Option, Some, None, refl}
-use Rattle.std.specs.Prelude.{◌&&◌}
+use Rattle.std.proofs.Common.{◌≡◌, ℕ, true, List, Option, Some, None, refl}
 use Rattle.pg_grammar.specs.declared.fault.Fault.{Fault}
 use Rattle.pg_grammar.specs.Languages.{Lang, gives, bind}
 use Rattle.pg_grammar.specs.Answers.{read, failed, Reads}
@@ -14,9 +13,9 @@ use Rattle.pg_parse_expr.specs.Grammar.{expr}
 use Rattle.pg_parse_expr.specs.Tree.{Tree}
 use Rattle.pg_parse_stmt.specs.Behind.{any, behind_as, behind_item}
 use Rattle.pg_parse_stmt.specs.Forms.{word}
-use Rattle.pg_parse_stmt.specs.Spellings.{spelled_expr, spelled_optional}
+use Rattle.pg_parse_stmt.specs.Spellings.{spelled_optional}
 use Rattle.pg_parse_stmt.proofs.Lists.{starts_any, and_left}
-use Rattle.pg_parse_stmt.proofs.Steps.{part_read}
+use Rattle.pg_parse_stmt.proofs.Steps.{part_read, and_right}
 use Rattle.pg_parse_stmt.specs.Grammar.{name, as_name, named_expr}
 use Rattle.pg_parse_stmt.specs.declared.tree.Item.{Item}
 use Rattle.pg_parse_stmt.specs.declared.tree.Item.TheVariants as item_of
@@ -34,14 +33,9 @@ starts_as =
     (starts_token behind_expr any (t.Keyword k.As) name as_behind_expr) (λ v. starts_any (gives (Some v)) behind_expr))
     (starts_gives behind_expr behind_expr None (λ o e. e))
 
-and_right : (a b : Bool) → (a && b) ≡ true → b ≡ true
-and_right true b e = e
-and_right false true e = refl
-and_right false false e = e
-
-item_expr : (o : Option Token) → behind_item o ≡ true → behind_expr o ≡ true
+pub behind_item_behind_expr : (o : Option Token) → behind_item o ≡ true → behind_expr o ≡ true
 unfolding behind_item
-item_expr o e = and_left (behind_expr o) (behind_as o) e
+behind_item_behind_expr o e = and_left (behind_expr o) (behind_as o) e
 
 item_as : (o : Option Token) → behind_item o ≡ true → behind_as o ≡ true
 unfolding behind_item
@@ -68,16 +62,11 @@ spelled_named_expr_after_expr expression =
     spelled_bind as_name (named_expr_after_name expression) spelled_as_name
     (λ named. spelled_named_expr_after_name expression named)
 
-pub spelled_named_expr : Spelled named_expr
-unfolding named_expr named_expr_after_expr named_expr_after_name named_expr_made
-spelled_named_expr =
-    spelled_bind expr named_expr_after_expr spelled_expr (λ expression. spelled_named_expr_after_expr expression)
-
 starts_named_expr_after_expr : (expression : Tree) → Starts behind_expr (named_expr_after_expr expression) behind_item
 unfolding named_expr_after_expr named_expr_after_name named_expr_made
 starts_named_expr_after_expr expression =
     starts_bind behind_expr behind_expr behind_item as_name (named_expr_after_name expression) starts_as
-    (λ named. starts_gives behind_expr behind_item (named_expr_made expression named) item_expr)
+    (λ named. starts_gives behind_expr behind_item (named_expr_made expression named) behind_item_behind_expr)
 
 starts_named_expr_after_name : (expression : Tree) → (named : Option (List ℕ)) →
     Starts behind_as (named_expr_after_name expression named) behind_item

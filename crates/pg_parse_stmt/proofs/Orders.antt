@@ -1,5 +1,5 @@
 -- ORDER BY, LIMIT and RETURNING
-use Rattle.std.proofs.Common.{◌≡◌, ◌∷◌, ℕ, Bool, true, false, List, [], length, Option, Some, None, refl, sym, ap, ◌∙◌, subst}
+use Rattle.std.proofs.Common.{◌≡◌, ◌∷◌, ℕ, Bool, true, false, List, [], length, Option, Some, refl, sym, ap, ◌∙◌, subst}
 use Rattle.std.specs.Prelude.{not, ◌&&◌, is_some}
 use Rattle.pg_grammar.specs.declared.fault.Fault.{Fault}
 use Rattle.pg_grammar.specs.declared.fault.Fault.TheVariants.{Syntax}
@@ -13,12 +13,12 @@ use Rattle.pg_lexer.specs.declared.token.Token.TheVariants as t
 use Rattle.pg_parse_expr.specs.Behind.{has, behind_expr}
 use Rattle.pg_parse_expr.specs.Grammar.{expr}
 use Rattle.pg_parse_expr.specs.Tree.{Tree}
-use Rattle.pg_parse_stmt.specs.Behind.{any, is_word, behind_list, behind_items, behind_returning, behind_direction, behind_nulls, behind_order_key, behind_order, behind_limit}
+use Rattle.pg_parse_stmt.specs.Behind.{any, is_word, behind_list, behind_items, behind_returning, behind_direction, behind_nulls, behind_order_key, behind_order}
 use Rattle.pg_parse_stmt.specs.Forms.{word, or_else, list_of}
-use Rattle.pg_parse_stmt.specs.Spellings.{spelled_expr, spelled_or_else, spelled_optional, spelled_list}
+use Rattle.pg_parse_stmt.specs.Spellings.{spelled_or_else, spelled_optional, spelled_list, spelled_order_key}
 use Rattle.pg_parse_stmt.specs.Words.{direction_of}
 use Rattle.pg_parse_stmt.proofs.Lists.{and_left}
-use Rattle.pg_parse_stmt.proofs.Steps.{word_read, word_missed, part_read, or_none, or_narrow, some_read, some_failed, none_read, starts_or, starts_optional, and_right}
+use Rattle.pg_parse_stmt.proofs.Steps.{word_read, word_missed, part_read, or_none, or_narrow, starts_or, starts_optional, and_right}
 use Rattle.pg_parse_stmt.specs.Grammar.{items, returning, direction, nulls_by, nulls, order_key, order, limit}
 use Rattle.pg_parse_stmt.specs.Words.{integer_of, nulls_of}
 use Rattle.pg_parse_stmt.specs.declared.tree.Item.{Item}
@@ -26,7 +26,7 @@ use Rattle.pg_parse_stmt.specs.declared.tree.Direction.{Direction}
 use Rattle.pg_parse_stmt.specs.declared.tree.Direction.TheVariants.{Ascending}
 use Rattle.pg_parse_stmt.specs.declared.tree.NullsPlace.{NullsPlace}
 use Rattle.pg_parse_stmt.specs.declared.tree.OrderKey.{OrderKey}
-use Rattle.pg_parse_stmt.proofs.Following.{expr_direction, limit_goes_on_limit, nulls_behind_direction, nulls_behind_expr, nulls_goes_on_nulls, order_goes_on_order, returning_goes_on_returning}
+use Rattle.pg_parse_stmt.proofs.Following.{expr_direction, nulls_behind_direction, nulls_behind_expr, nulls_goes_on_nulls, order_goes_on_order, returning_goes_on_returning}
 
 returning_below : (o : Option Token) → behind_returning o ≡ true → behind_items o ≡ true
 unfolding behind_returning
@@ -153,10 +153,6 @@ spelled_order_key_after_expr key =
     spelled_bind direction (order_key_after_direction key) spelled_direction
     (λ way. spelled_order_key_after_direction key way)
 
-pub spelled_order_key : Spelled order_key
-unfolding order_key order_key_after_expr order_key_after_direction order_key_after_nulls order_key_made
-spelled_order_key = spelled_bind expr order_key_after_expr spelled_expr (λ key. spelled_order_key_after_expr key)
-
 starts_order_key_after_expr : (key : Tree) → Starts behind_expr (order_key_after_expr key) behind_order_key
 unfolding order_key_after_expr order_key_after_direction order_key_after_nulls order_key_made
 starts_order_key_after_expr key =
@@ -186,17 +182,6 @@ unfolding order_key order_key_after_expr order_key_after_direction order_key_aft
 order_key_expr_failed xs f fails =
     reads_bind_failed expr order_key_after_expr behind_expr behind_order_key xs f fails
     (λ key. starts_order_key_after_expr key) (λ key. spelled_order_key_after_expr key)
-
-pub order_key_direction_failed : (xs after_expr : List Token) (key : Tree) (f : Fault) →
-    Reads expr behind_expr xs (read key after_expr) →
-    Reads direction behind_direction after_expr (failed f) →
-    Reads order_key behind_order_key xs (failed f)
-unfolding order_key order_key_after_expr order_key_after_direction order_key_after_nulls order_key_made
-order_key_direction_failed xs after_expr key f reads_expr fails =
-    part_read expr order_key_after_expr behind_expr behind_order_key xs after_expr key (failed f) reads_expr
-    (λ key. starts_order_key_after_expr key)
-    (reads_bind_failed direction (order_key_after_direction key) behind_direction behind_order_key after_expr f fails
-    (λ way. starts_order_key_after_direction key way) (λ way. spelled_order_key_after_direction key way))
 
 pub order_key_nulls_failed : (xs after_expr after_direction : List Token) (key : Tree) (way : Direction) (f : Fault) →
     Reads expr behind_expr xs (read key after_expr) →
@@ -265,28 +250,6 @@ starts_order b h = starts_or [] (t.Keyword k.Order) (word k.By (list_of order_ke
 pub spelled_order : Spelled order
 unfolding order
 spelled_order = spelled_or_else [] (word k.Order (word k.By (list_of order_key)))
-
-limit_below : (o : Option Token) → behind_limit o ≡ true → any o ≡ true
-unfolding behind_limit
-limit_below o e = refl
-
-pub limit_read : (xs ys zs : List Token) (v : ℕ) → xs ≡ (t.Keyword k.Limit) ∷ ys →
-    Reads (one integer_of) any ys (read v zs) →
-    Reads limit behind_limit xs (read (Some v) zs)
-unfolding limit
-limit_read xs ys zs v e r =
-    some_read (t.Keyword k.Limit) (one integer_of) any behind_limit limit_below xs ys zs v limit_goes_on_limit e r
-
-pub limit_failed : (xs ys : List Token) (f : Fault) → xs ≡ (t.Keyword k.Limit) ∷ ys →
-    Reads (one integer_of) any ys (failed f) →
-    Reads limit behind_limit xs (failed f)
-unfolding limit
-limit_failed xs ys f e r =
-    some_failed (t.Keyword k.Limit) (one integer_of) any behind_limit limit_below xs ys f limit_goes_on_limit e r
-
-pub limit_none : (xs : List Token) → Misses (t.Keyword k.Limit) xs → Reads limit behind_limit xs (read None xs)
-unfolding limit
-limit_none xs miss = none_read (t.Keyword k.Limit) (one integer_of) behind_limit xs miss
 
 pub starts_limit : (b : Option Token → Bool) → b (Some (t.Keyword k.Limit)) ≡ true → Starts b limit b
 unfolding limit

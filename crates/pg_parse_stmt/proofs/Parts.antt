@@ -15,12 +15,11 @@ use Rattle.pg_parse_expr.specs.Behind.{has}
 use Rattle.pg_parse_expr.specs.Operators.{name_of, value_of}
 use Rattle.pg_parse_stmt.specs.Behind.{any, behind_part}
 use Rattle.pg_parse_stmt.specs.Forms.{word, sign, optional}
-use Rattle.pg_parse_stmt.specs.Spellings.{spelled_name, spelled_optional}
 use Rattle.pg_parse_stmt.specs.Words.{rule_of}
 use Rattle.pg_parse_stmt.proofs.Lists.{starts_any}
 use Rattle.pg_parse_stmt.proofs.Steps.{word_read, part_read, starts_optional}
 use Rattle.std.proofs.lemmas.Bool.{false≢true}
-use Rattle.std.proofs.Common.{subst, inl}
+use Rattle.std.proofs.Common.{subst}
 use Rattle.std.specs.Prelude.{pos, neg_ℤ, is_some}
 use Rattle.pg_grammar.proofs.Leading.{Leads, leads_on, reads_narrow}
 use Rattle.pg_grammar.proofs.Words.{spelled_more, bars_from}
@@ -40,7 +39,7 @@ use Rattle.pg_parse_stmt.specs.declared.tree.TableConstraint.{TableConstraint}
 use Rattle.pg_parse_stmt.specs.declared.tree.TablePart.{TablePart}
 use Rattle.pg_parse_stmt.specs.declared.tree.TablePart.TheVariants as part_of
 use Rattle.pg_parse_stmt.proofs.Exits.{reads_lacks, lacks_first, lacks_end}
-use Rattle.pg_parse_stmt.proofs.Constraints.{default_is_spelled, spelled_table_constraint}
+use Rattle.pg_parse_stmt.proofs.Constraints.{spelled_table_constraint}
 use Rattle.pg_parse_stmt.proofs.Following.{check_behind_constraint_name, primary_behind_constraint_name, unique_behind_constraint_name}
 
 module _ (xs ys : List Token) (u : Token) (v : Value) (l : ℕ) where
@@ -104,19 +103,6 @@ pub default_minus_failed : (xs ys : List Token) (f : Fault) → xs ≡ t.Sign s.
     Reads (one negative_of) any ys (failed f) → Reads default any xs (failed f)
 default_minus_failed xs ys f e r = default_minus xs ys (failed f) e r
 
-spelled_default : Spelled default
-unfolding default value_of
-spelled_default =
-    record {
-      word = t.Quoted [] ∷ [];
-      value = value.Text [];
-      spells = λ m z w. inl
-          (record { head = t.Quoted []; is = refl; value = refl });
-    }
-
-spelled_rule_behind : (w : RuleWord) → Spelled (column_rule_behind w)
-spelled_rule_behind w = default_is_spelled spelled_default w
-
 -- the rules of a column
 after_rule : List ColumnRule → ColumnRule → Lang Token (List ColumnRule)
 after_rule list r = gives (list ++ r ∷ [])
@@ -148,11 +134,6 @@ leads_rule list xs ys w k =
     (leads_on (leads_one rule_of (λ x. bind (behind_word list x)
     (more next_rule)) behind_part xs ys k.head w k.is k.value)
     (leads_assoc (column_rule_behind w) (after_rule list) (more next_rule) behind_part ys)))
-
-pub rules_begun : (xs : List Token) (none : List ColumnRule) → none ≡ [] →
-    Leads (more next_rule []) xs (more next_rule none) xs behind_part
-rules_begun xs none e =
-    subst (λ x. Leads (more next_rule []) xs (more next_rule x) xs behind_part) (sym e) (record { to = λ o r. r })
 
 pub rules_go_on : (list longer : List ColumnRule) (ts xs ys zs : List Token) (w : RuleWord) (r : ColumnRule) →
     longer ≡ list ++ r ∷ [] →
@@ -249,10 +230,6 @@ unfolding column_after_name
 spelled_column_after_name named =
     spelled_bind (one kind_of) (column_after_kind named) spelled_kind (λ kind. spelled_column_after_kind named kind)
 
-pub spelled_column_part : Spelled column_part
-unfolding column_part column_after_name column_after_kind column_after_rules column_part_made
-spelled_column_part = spelled_bind name column_after_name spelled_name (λ named. spelled_column_after_name named)
-
 starts_column_after_name : (named : List ℕ) → Starts any (column_after_name named) behind_part
 unfolding column_after_name column_after_kind column_after_rules column_part_made
 starts_column_after_name named = starts_any (column_after_name named) behind_part
@@ -337,12 +314,6 @@ spelled_constraint_part_after_name named =
     spelled_bind (bind (one constraint_of) table_constraint_behind) (constraint_part_after_body named) spelled_by_word
     (λ body. spelled_constraint_part_after_body named body)
 
-pub spelled_constraint_part : Spelled constraint_part
-unfolding constraint_part constraint_part_after_name constraint_part_after_body constraint_part_made
-spelled_constraint_part =
-    spelled_bind (optional (word k.Constraint name)) constraint_part_after_name
-    (spelled_optional (word k.Constraint name)) (λ named. spelled_constraint_part_after_name named)
-
 starts_constraint_part_after_name : (named : Option (List ℕ)) →
     Starts behind_constraint_name (constraint_part_after_name named) any
 unfolding constraint_part_after_name constraint_part_after_body constraint_part_made
@@ -389,11 +360,6 @@ constraint_part_whole xs after_name rest named body reads_name reads_body =
     rest body (read (part_of.Constraint named body) rest) reads_body
     (λ body. starts_constraint_part_after_body named body)
     (reads_gives (constraint_part_made named body) (constraint_part_made named body) any rest refl))
-
--- a column or a constraint, by the first token
-constraint_begins : begins_constraint (Some (t.Keyword k.Constraint)) ≡ true
-unfolding begins_constraint
-constraint_begins = refl
 
 starts_constraint_part : Starts begins_constraint constraint_part any
 unfolding constraint_part constraint_part_after_name constraint_part_after_body constraint_part_made begins_constraint

@@ -144,10 +144,6 @@ committed_whole x xs after_level after_read rest at_level at_read at_committed =
     (word_read (t.Keyword k.Committed) (gives x) any after_read rest (read x rest) at_committed
     (reads_gives x x any rest refl)))
 
-spelled_committed : (x : StmtTree) → Spelled (committed x)
-unfolding committed read_word committed_word
-spelled_committed x = spelled_token (t.Keyword k.Level) (read_word x) (spelled_read_word x)
-
 -- [ISOLATION LEVEL READ COMMITTED]
 isolation_goes_on : behind_begin (Some (t.Keyword k.Isolation)) ≡ false
 unfolding behind_begin behind_transaction is_word spelling

@@ -13,7 +13,6 @@ use Rattle.pg_parse_expr.specs.Tree.{Tree}
 use Rattle.pg_parse_stmt.specs.Behind.{behind_condition, behind_items, behind_from, behind_subselect}
 use Rattle.pg_parse_stmt.proofs.Steps.{word_read, word_missed, part_read}
 use Rattle.pg_parse_stmt.specs.Grammar.{items, condition, table_source, one_source, from_of, subselect}
-use Rattle.pg_parse_stmt.specs.Spellings.{spelled_items}
 use Rattle.pg_parse_stmt.specs.declared.tree.Item.{Item}
 use Rattle.pg_parse_stmt.specs.declared.tree.TableRef.{TableRef}
 use Rattle.pg_parse_stmt.specs.declared.tree.Joined.{Joined}
@@ -61,12 +60,6 @@ spelled_subselect_after_items : (n : ℕ) → (listed : List Item) → Spelled (
 unfolding subselect_after_items
 spelled_subselect_after_items n listed =
     spelled_token (t.Keyword k.From) (subselect_after_from n listed) (spelled_subselect_after_from n listed)
-
-pub spelled_subselect : (n : ℕ) → Spelled (subselect n)
-unfolding subselect subselect_after_items subselect_after_from subselect_after_sources subselect_after_condition
-    subselect_made
-spelled_subselect n =
-    spelled_bind items (subselect_after_items n) spelled_items (λ listed. spelled_subselect_after_items n listed)
 
 starts_subselect_after_items : (n : ℕ) → (listed : List Item) →
     Starts behind_items (subselect_after_items n listed) behind_subselect

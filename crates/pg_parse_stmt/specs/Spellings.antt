@@ -11,23 +11,28 @@ use Rattle.pg_values.specs.declared.value.Kind.TheVariants as kind
 use Rattle.pg_parse_expr.specs.Grammar.{expr, expr_at}
 use Rattle.pg_parse_expr.specs.Operators.{name_of}
 use Rattle.pg_parse_expr.proofs.Spelling.{spelled_disjunction}
-use Rattle.pg_parse_stmt.specs.Forms.{sign, or_else, optional, next_of, list_of, in_brackets}
-use Rattle.pg_parse_stmt.specs.Words.{kind_of, direction_of, nulls_of, strength_of, lead_of, link_of, change_of, constraint_of, rule_of}
+use Rattle.pg_parse_stmt.specs.Forms.{word, sign, or_else, optional, next_of, list_of, in_brackets}
+use Rattle.pg_parse_stmt.specs.Words.{integer_of, kind_of, direction_of, nulls_of, strength_of, lead_of, link_of, change_of, constraint_of, rule_of}
 use Rattle.pg_parse_stmt.specs.declared.tree.Direction.TheVariants.{Ascending}
 use Rattle.pg_parse_stmt.specs.declared.tree.NullsPlace.TheVariants.{First}
+use Rattle.pg_parse_stmt.specs.declared.tree.LockStrength.{LockStrength}
 use Rattle.pg_parse_stmt.specs.declared.tree.LockStrength.TheVariants as lock
 use Rattle.pg_parse_stmt.specs.declared.word.Lead.TheVariants as lead
 use Rattle.pg_parse_stmt.specs.declared.word.Link.TheVariants as link
 use Rattle.pg_parse_stmt.specs.declared.word.ChangeWord.TheVariants as change_word
 use Rattle.pg_parse_stmt.specs.declared.word.ConstraintWord.TheVariants as constraint_word
 use Rattle.pg_parse_stmt.specs.declared.word.RuleWord.TheVariants as rule_word
-use Rattle.pg_parse_stmt.specs.Grammar.{table_named, table_ref, table_source, source, name, names, alias, item, items, tuple, tuples, assignment, sets, element, elements, direction, nulls, nulls_by, order_key, column_part, constraint_part, part, next_rule}
+use Rattle.pg_parse_stmt.specs.Grammar.{table_named, table_ref, table_source, source, name, names, alias, item, items, tuple, tuples, assignment, sets, element, elements, direction, nulls, nulls_by, order_key, strength_behind, strength, of_table, lock_wait, locked, column_part, constraint_part, part, next_rule}
 use Rattle.pg_parse_stmt.specs.declared.tree.Item.TheVariants as item_of
 use Rattle.pg_parse_stmt.specs.declared.tree.Element.TheVariants as element_of
 
 pub spelled_name : Spelled name
 unfolding name name_of
 spelled_name = spelled_one name_of (t.Name []) [] refl
+
+pub spelled_integer : Spelled (one integer_of)
+unfolding integer_of
+spelled_integer = spelled_one integer_of (t.Integer 0) 0 refl
 
 pub spelled_expr : Spelled expr
 unfolding expr expr_at
@@ -136,6 +141,23 @@ spelled_nulls = spelled_one nulls_of (t.Keyword k.First) First refl
 pub spelled_strength : Spelled (one strength_of)
 unfolding strength_of
 spelled_strength = spelled_one strength_of (t.Keyword k.Share) lock.Share refl
+
+pub spelled_strength_behind : (v : LockStrength) → Spelled (strength_behind v)
+unfolding strength_behind
+spelled_strength_behind lock.KeyShare =
+    spelled_token (t.Keyword k.Share) (gives lock.KeyShare) (spelled_gives lock.KeyShare)
+spelled_strength_behind lock.Share = spelled_gives lock.Share
+spelled_strength_behind lock.NoKeyUpdate =
+    spelled_token (t.Keyword k.Key) (word k.Update (gives lock.NoKeyUpdate))
+    (spelled_token (t.Keyword k.Update) (gives lock.NoKeyUpdate) (spelled_gives lock.NoKeyUpdate))
+spelled_strength_behind lock.Update = spelled_gives lock.Update
+
+pub spelled_locked : Spelled locked
+unfolding locked strength of_table lock_wait
+spelled_locked =
+    spelled_bind strength _ (spelled_bind (one strength_of) strength_behind spelled_strength spelled_strength_behind)
+    (λ st. spelled_bind of_table _ (spelled_optional (word k.Of name))
+    (λ n. spelled_bind lock_wait _ (spelled_or_else _ _) (λ w. spelled_gives _)))
 
 pub spelled_table_source : (n : ℕ) → Spelled (table_source n)
 unfolding table_source table_ref table_named

@@ -6,7 +6,7 @@ ghost use Rattle.pg_parse_stmt.specs.Forms.{list_of, in_brackets, optional, word
 ghost use Rattle.pg_parse_expr.specs.Grammar.{expr};
 ghost use Rattle.pg_parse_expr.specs.Behind.{behind_expr};
 
-use crate::front::{Read, name};
+use crate::front::{Read, integer, name};
 use pg_grammar::{Fault, Part};
 use pg_lexer::{Keyword, NameText, Sign, Token};
 use pg_lists::Items;
@@ -157,6 +157,29 @@ impl Listed for NameText {
     ghost close = { refl };
 
     ghost spelled = { spelled_name };
+}
+
+/// An integer literal.
+impl Listed for u64 {
+    ghost use Rattle.pg_parse_stmt.specs.Spellings.{spelled_integer};
+    ghost use Rattle.std.proofs.Common.{refl};
+    ghost use Rattle.pg_grammar.specs.Languages.{one};
+    ghost use Rattle.pg_parse_stmt.specs.Behind.{any};
+    ghost use Rattle.pg_parse_stmt.specs.Words.{integer_of};
+
+    ghost rule = { one integer_of };
+
+    ghost follows = { any };
+
+    fn read<'a>(_alloc: Global, tokens: &'a [Token]) -> Read<'a, u64> {
+        integer(tokens)
+    }
+
+    ghost comma = { refl };
+
+    ghost close = { refl };
+
+    ghost spelled = { spelled_integer };
 }
 
 impl Listed for ExprTree {

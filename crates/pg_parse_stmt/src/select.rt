@@ -6,7 +6,7 @@ ghost use Rattle.pg_grammar.specs.Parts.{seen};
 ghost use Rattle.pg_parse_stmt.specs.Behind.{any, behind_as, behind_item, behind_items, behind_returning, behind_direction, behind_nulls, behind_order_key, behind_order, behind_limit, behind_wait, behind_of, behind_locked, behind_locking, behind_statement};
 ghost use Rattle.pg_parse_stmt.specs.Grammar.{item, as_name, named_expr, returning, direction, nulls_by, nulls, order_key, order, limit, strength_behind, strength, of_table, lock_wait, locked, locking, select};
 
-use crate::front::{Read, begins_name, integer, name};
+use crate::front::{Read, begins_name, name};
 use crate::list::{Listed, expr, list, optional};
 use crate::source::{condition, sources};
 use crate::tree::{Direction, Item, LockStrength, LockWait, Locking, NullsPlace, OrderKey, Select};
@@ -220,23 +220,11 @@ fn order<'a>(alloc: Global, tokens: &'a [Token]) -> Read<'a, Items<OrderKey>>
 }
 
 /// `[LIMIT integer]`
-#[tactic(auto, using(crate::proofs::Orders::limit_read, crate::proofs::Orders::limit_failed, crate::proofs::Orders::limit_none))]
-fn limit(tokens: &[Token]) -> Read<'_, Option<u64>>
+#[tactic(auto, unfolding(crate::specs::Grammar::limit, crate::specs::Behind::behind_limit, crate::specs::Behind::behind_optional))]
+fn limit<'a>(alloc: Global, tokens: &'a [Token]) -> Read<'a, Option<u64>>
     ensures { Reads limit behind_limit tokens.now (seen result) }
 {
-    match accept_word(tokens, Keyword::Limit) {
-        Some(rest) => match integer(rest) {
-            Ok(Part { value, rest }) => Ok(Part {
-                value: Some(value),
-                rest,
-            }),
-            Err(fault) => Err(fault),
-        },
-        None => Ok(Part {
-            value: None,
-            rest: tokens,
-        }),
-    }
+    optional::<u64>(alloc, tokens, Keyword::Limit)
 }
 
 /// What is behind the first word of a strength.
@@ -341,24 +329,33 @@ fn locked<'a>(alloc: Global, tokens: &'a [Token]) -> Read<'a, Locking>
     }
 }
 
+impl Listed for Locking {
+    ghost use Rattle.pg_parse_stmt.specs.Spellings.{spelled_locked};
+    ghost use Rattle.pg_parse_stmt.specs.After.{behind_locked_comma, behind_locked_close};
+    ghost use Rattle.pg_parse_stmt.specs.Behind.{behind_locked};
+    ghost use Rattle.pg_parse_stmt.specs.Grammar.{locked as locked_rule};
+
+    ghost rule = { locked_rule };
+
+    ghost follows = { behind_locked };
+
+    fn read<'a>(alloc: Global, tokens: &'a [Token]) -> Read<'a, Locking> {
+        locked(alloc, tokens)
+    }
+
+    ghost comma = { behind_locked_comma };
+
+    ghost close = { behind_locked_close };
+
+    ghost spelled = { spelled_locked };
+}
+
 /// `[FOR strength [OF name] [NOWAIT | SKIP LOCKED]]`
-#[tactic(auto, using(crate::proofs::Locks::locking_read, crate::proofs::Locks::locking_failed, crate::proofs::Locks::locking_none))]
+#[tactic(auto, unfolding(crate::specs::Grammar::locking, crate::specs::Behind::behind_locking, crate::specs::Behind::behind_optional))]
 fn locking<'a>(alloc: Global, tokens: &'a [Token]) -> Read<'a, Option<Locking>>
     ensures { Reads locking behind_locking tokens.now (seen result) }
 {
-    match accept_word(tokens, Keyword::For) {
-        Some(rest) => match locked(alloc, rest) {
-            Ok(Part { value, rest }) => Ok(Part {
-                value: Some(value),
-                rest,
-            }),
-            Err(fault) => Err(fault),
-        },
-        None => Ok(Part {
-            value: None,
-            rest: tokens,
-        }),
-    }
+    optional::<Locking>(alloc, tokens, Keyword::For)
 }
 
 /// `items FROM from [WHERE expr] [ORDER BY order_key {"," order_key}] [LIMIT integer] [FOR locked]`, behind SELECT.
@@ -386,7 +383,7 @@ pub(crate) fn select<'a>(alloc: Global, tokens: &'a [Token]) -> Read<'a, Select>
         Ok(part) => part,
         Err(fault) => return Err(fault),
     };
-    let limit = match limit(order.rest) {
+    let limit = match limit(alloc, order.rest) {
         Ok(part) => part,
         Err(fault) => return Err(fault),
     };

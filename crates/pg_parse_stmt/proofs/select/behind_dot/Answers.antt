@@ -4,7 +4,8 @@ use Rattle.pg_parse_stmt.proofs.select.behind_dot.Goals as goal
 
 pub returns-in-None-accept_sign : goal.returns-in-None-accept_sign
 returns-in-None-accept_sign c =
-    dotted_no_dot c.args.tokens.now c.in-Some.rest.now c.in-Some.field-0-0.now (search rules) (search rules) c.in-None-accept_sign.ensures
+    dotted_no_dot c.args.tokens.now c.in-Some.rest.now c.in-Some.field-0-0.now (search rules) (search rules)
+    c.in-None-accept_sign.ensures
 
 pub returns-else-begins_name : goal.returns-else-begins_name
 returns-else-begins_name c = dotted_no_name c.args.tokens.now (search rules)
