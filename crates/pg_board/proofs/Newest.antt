@@ -2,10 +2,10 @@
 use Rattle.std.proofs.Common.{◌≡◌, Bool, true, false, cond, List, [], ◌∷◌, Option, Some, None, filter, refl}
 use Rattle.std.specs.Prelude.{option_and_then}
 use Rattle.pg_values.specs.declared.value.Value.{Value}
-use Rattle.pg_model.specs.declared.world.Row.{Row}
-use Rattle.pg_model.specs.declared.world.Version.{Version}
-use Rattle.pg_model.specs.declared.world.Transaction.{Transaction}
-use Rattle.pg_model.specs.Rows.{is_committed, live, newest}
+use Rattle.pg_first_path.specs.declared.world.Row.{Row}
+use Rattle.pg_first_path.specs.declared.world.Version.{Version}
+use Rattle.pg_first_path.specs.declared.world.Transaction.{Transaction}
+use Rattle.pg_first_path.specs.Rows.{is_committed, live, newest}
 
 -- the values of the newest committed version, or those found before where there is none
 abbrev pub live_or : List Transaction → Option (List Value) → List Version → Option (List Value)

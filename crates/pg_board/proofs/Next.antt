@@ -1,14 +1,14 @@
 -- The session that moves next is one of the script's and can move; there is none where each has ended.
 use Rattle.std.proofs.Common.{◌≡◌, ◌<◌, ◌↔◌, ◌&&◌, ℕ, Bool, true, false, not, nat_lt, All, IfSome, length, Option, Some, None, refl, sym, ◌∙◌, arith}
 use Rattle.std.proofs.lemmas.Bool.Decides.{nat_tests}
-use Rattle.pg_model.specs.declared.script.Script.{Script}
-use Rattle.pg_model.specs.declared.world.Progress.{Progress}
-use Rattle.pg_model.specs.declared.world.Progress.TheVariants.{Idle, Inside, Closed}
-use Rattle.pg_model.specs.declared.world.World.{World}
-use Rattle.pg_model.specs.Sound.{IsSound}
-use Rattle.pg_model.specs.Stepped.{Schedule, is_closed, next_session, settled}
-use Rattle.pg_model.proofs.Lists.{all_at, all_each}
-use Rattle.pg_model.proofs.Schedules.{closed_none, next_can_move, next_within, none_closed}
+use Rattle.pg_first_path.specs.declared.script.Script.{Script}
+use Rattle.pg_first_path.specs.declared.world.Progress.{Progress}
+use Rattle.pg_first_path.specs.declared.world.Progress.TheVariants.{Idle, Inside, Closed}
+use Rattle.pg_first_path.specs.declared.world.World.{World}
+use Rattle.pg_first_path.specs.Sound.{IsSound}
+use Rattle.pg_first_path.specs.Stepped.{Schedule, is_closed, next_session, settled}
+use Rattle.pg_first_path.proofs.Lists.{all_at, all_each}
+use Rattle.pg_first_path.proofs.Schedules.{closed_none, next_can_move, next_within, none_closed}
 use Rattle.pg_board.specs.Board.{BoardView, has_ended, waits_for_lines}
 use Rattle.pg_board.proofs.Settling.{closed_is, is_closed_of}
 

@@ -1,8 +1,8 @@
 -- The numbers of a session's lines lead to its lines.
 use Rattle.std.proofs.Common.{◌≡◌, ℕ, zero, suc, ◌+◌, ◌==◌, Bool, true, false, cond, List, [], ◌∷◌, drop, Some, None, slice_get, refl, sym, add-one}
 use Rattle.std.specs.Prelude.{option_and_then}
-use Rattle.pg_model.specs.declared.script.Line.{Line}
-use Rattle.pg_model.specs.Lines.{lines_of}
+use Rattle.pg_first_path.specs.declared.script.Line.{Line}
+use Rattle.pg_first_path.specs.Lines.{lines_of}
 use Rattle.pg_board.specs.Queues.{numbers_of}
 
 -- what stands behind the first items begins with the item of that number

@@ -1,17 +1,17 @@
 -- Lines are taken until a session is ready, and who has ended.
 use Rattle.std.proofs.Common.{◌≡◌, ◌<◌, ◌≤◌, ◌+◌, ◌↔◌, ℕ, zero, suc, Bool, true, false, cond, List, [], ◌∷◌, length, drop, Option, Some, None, slice_get, refl, arith, ap, sym, ◌∙◌, add-one, IsTrue}
 use Rattle.std.specs.Prelude.{is_some}
-use Rattle.pg_model.specs.declared.script.Script.{Script}
-use Rattle.pg_model.specs.declared.script.Line.{Line}
-use Rattle.pg_model.specs.declared.world.Progress.{Progress}
-use Rattle.pg_model.specs.declared.world.Progress.TheVariants.{Idle, Inside, Closed}
-use Rattle.pg_model.specs.declared.world.SessionView.{SessionView}
-use Rattle.pg_model.specs.declared.world.World.{World}
-use Rattle.pg_model.specs.Lines.{line_at}
-use Rattle.pg_model.specs.Moves.{moves_of, session_moves}
-use Rattle.pg_model.specs.Sound.{IsSound}
-use Rattle.pg_model.specs.Stepped.{Schedule, first_of_list, is_closed, ready, settled, settled_by}
-use Rattle.pg_model.proofs.Schedules.{first_move}
+use Rattle.pg_first_path.specs.declared.script.Script.{Script}
+use Rattle.pg_first_path.specs.declared.script.Line.{Line}
+use Rattle.pg_first_path.specs.declared.world.Progress.{Progress}
+use Rattle.pg_first_path.specs.declared.world.Progress.TheVariants.{Idle, Inside, Closed}
+use Rattle.pg_first_path.specs.declared.world.SessionView.{SessionView}
+use Rattle.pg_first_path.specs.declared.world.World.{World}
+use Rattle.pg_first_path.specs.Lines.{line_at}
+use Rattle.pg_first_path.specs.Moves.{moves_of, session_moves}
+use Rattle.pg_first_path.specs.Sound.{IsSound}
+use Rattle.pg_first_path.specs.Stepped.{Schedule, first_of_list, is_closed, ready, settled, settled_by}
+use Rattle.pg_first_path.proofs.Schedules.{first_move}
 
 drop_past : {X : Type 0} (xs : List X) (n : ℕ) → length xs ≤ n → drop n xs ≡ []
 drop_past [] zero past = refl

@@ -1,23 +1,23 @@
 -- A board with one entry more.
 use Rattle.std.proofs.Common.{◌≡◌, ℕ, List, [], ◌∷◌, ◌++◌, Option, Some, None, slice_get, refl, subst, arith, ap, sym, ◌∙◌}
-use Rattle.pg_model.specs.declared.script.Script.{Script}
-use Rattle.pg_model.specs.declared.script.Line.{Line}
-use Rattle.pg_model.specs.declared.journal.Entry.{Entry}
-use Rattle.pg_model.specs.declared.journal.EntryAct.{EntryAct}
-use Rattle.pg_model.specs.declared.journal.EntryAct.TheVariants as act
-use Rattle.pg_model.specs.declared.world.Progress.TheVariants.{Inside}
-use Rattle.pg_model.specs.declared.world.SessionView.{SessionView}
-use Rattle.pg_model.specs.declared.world.World.{World}
-use Rattle.pg_model.specs.Lines.{line_at}
-use Rattle.pg_model.specs.Worlds.{first_world}
-use Rattle.pg_model.specs.Moves.{IsPermitted, moves_of}
-use Rattle.pg_model.specs.Effect.{act_effect, at_session, effect}
-use Rattle.pg_model.specs.Journals.{IsLegalFrom, world_from}
-use Rattle.pg_model.specs.Sound.{IsSound}
-use Rattle.pg_model.specs.Stepped.{first_of_list}
-use Rattle.pg_model.proofs.Journals.{first_contained, legal_from_more, world_from-more}
-use Rattle.pg_model.proofs.Needs.{move_of}
-use Rattle.pg_model.proofs.Sound.{acts_bound, answered_bound, bounds, script_limits, sound_first, sound_kept}
+use Rattle.pg_first_path.specs.declared.script.Script.{Script}
+use Rattle.pg_first_path.specs.declared.script.Line.{Line}
+use Rattle.pg_first_path.specs.declared.journal.Entry.{Entry}
+use Rattle.pg_first_path.specs.declared.journal.EntryAct.{EntryAct}
+use Rattle.pg_first_path.specs.declared.journal.EntryAct.TheVariants as act
+use Rattle.pg_first_path.specs.declared.world.Progress.TheVariants.{Inside}
+use Rattle.pg_first_path.specs.declared.world.SessionView.{SessionView}
+use Rattle.pg_first_path.specs.declared.world.World.{World}
+use Rattle.pg_first_path.specs.Lines.{line_at}
+use Rattle.pg_first_path.specs.Worlds.{first_world}
+use Rattle.pg_first_path.specs.Moves.{IsPermitted, moves_of}
+use Rattle.pg_first_path.specs.Effect.{act_effect, at_session, effect}
+use Rattle.pg_first_path.specs.Journals.{IsLegalFrom, world_from}
+use Rattle.pg_first_path.specs.Sound.{IsSound}
+use Rattle.pg_first_path.specs.Stepped.{first_of_list}
+use Rattle.pg_first_path.proofs.Journals.{first_contained, legal_from_more, world_from-more}
+use Rattle.pg_first_path.proofs.Needs.{move_of}
+use Rattle.pg_first_path.proofs.Sound.{acts_bound, answered_bound, bounds, script_limits, sound_first, sound_kept}
 use Rattle.pg_board.specs.declared.queues.Queue.{Queue}
 use Rattle.pg_board.specs.Queues.{AreQueues}
 use Rattle.pg_board.specs.Room.{HasRoom, HasRoomIn}

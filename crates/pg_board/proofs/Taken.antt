@@ -7,11 +7,11 @@ use Rattle.std.proofs.lemmas.List.Filters.{length-filter_more}
 use Rattle.std.proofs.lemmas.Option.{get_or_from_slice_get, slice_get_within}
 use Rattle.std.proofs.lemmas.Bool.Decides.{nat_tests}
 use Rattle.pg_lists.proofs.Lists.{replaced_each}
-use Rattle.pg_model.specs.declared.script.Script.{Script}
-use Rattle.pg_model.specs.declared.script.Line.{Line}
-use Rattle.pg_model.specs.declared.world.SessionView.{SessionView}
-use Rattle.pg_model.specs.declared.world.World.{World}
-use Rattle.pg_model.specs.Stepped.{continuing, is_idle, is_queued, lowest, or_else, ready}
+use Rattle.pg_first_path.specs.declared.script.Script.{Script}
+use Rattle.pg_first_path.specs.declared.script.Line.{Line}
+use Rattle.pg_first_path.specs.declared.world.SessionView.{SessionView}
+use Rattle.pg_first_path.specs.declared.world.World.{World}
+use Rattle.pg_first_path.specs.Stepped.{continuing, is_idle, is_queued, lowest, or_else, ready}
 use Rattle.pg_board.specs.declared.queues.Queue.{Queue}
 use Rattle.pg_board.specs.Queues.{AreQueues, has_taken, numbers_of, queue_of, queued_more, ready_by, taken_of}
 

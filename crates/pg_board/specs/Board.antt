@@ -1,14 +1,14 @@
 -- What a board shows, and how a step changes it.
 use Rattle.std.specs.Prelude.{ℕ, ◌≡◌, ◌++◌, ◌∷◌, ◌&&◌, [], List, Bool, false, not, nat_lt, length, Some}
 use Rattle.std.specs.Option.{option_map_or}
-use Rattle.pg_model.specs.declared.script.Script.{Script}
-use Rattle.pg_model.specs.declared.journal.Entry.{Entry}
-use Rattle.pg_model.specs.declared.journal.EntryAct.{EntryAct}
-use Rattle.pg_model.specs.declared.world.World.{World}
-use Rattle.pg_model.specs.Worlds.{first_world, session_of}
-use Rattle.pg_model.specs.Effect.{effect}
-use Rattle.pg_model.specs.Moves.{moves_of}
-use Rattle.pg_model.specs.Stepped.{Schedule, first_of_list, first_schedule, is_closed, is_idle, is_queued}
+use Rattle.pg_first_path.specs.declared.script.Script.{Script}
+use Rattle.pg_first_path.specs.declared.journal.Entry.{Entry}
+use Rattle.pg_first_path.specs.declared.journal.EntryAct.{EntryAct}
+use Rattle.pg_first_path.specs.declared.world.World.{World}
+use Rattle.pg_first_path.specs.Worlds.{first_world, session_of}
+use Rattle.pg_first_path.specs.Effect.{effect}
+use Rattle.pg_first_path.specs.Moves.{moves_of}
+use Rattle.pg_first_path.specs.Stepped.{Schedule, first_of_list, first_schedule, is_closed, is_idle, is_queued}
 
 -- the script, the journal so far, the world that it leaves, and which lines were taken
 pub record BoardView : Type 0 where

@@ -1,13 +1,13 @@
 -- The numbers of a session's lines in the script, and how many of them were taken.
 use Rattle.std.specs.Prelude.{ℕ, ◌≡◌, ◌+◌, ◌<◌, ◌==◌, ◌&&◌, Bool, if◌then◌else◌, nat_lt, List, [], ◌∷◌, length, take, Option, Some}
 use Rattle.std.specs.Option.{option_map_or}
-use Rattle.pg_model.specs.declared.script.Line.{Line}
-use Rattle.pg_model.specs.declared.script.Script.{Script}
-use Rattle.pg_model.specs.declared.world.SessionView.{SessionView}
-use Rattle.pg_model.specs.declared.world.World.{World}
+use Rattle.pg_first_path.specs.declared.script.Line.{Line}
+use Rattle.pg_first_path.specs.declared.script.Script.{Script}
+use Rattle.pg_first_path.specs.declared.world.SessionView.{SessionView}
+use Rattle.pg_first_path.specs.declared.world.World.{World}
 use Rattle.pg_lists.specs.Numbered.{numbered}
-use Rattle.pg_model.specs.Lines.{lines_of}
-use Rattle.pg_model.specs.Stepped.{continuing, is_idle, lowest, or_else}
+use Rattle.pg_first_path.specs.Lines.{lines_of}
+use Rattle.pg_first_path.specs.Stepped.{continuing, is_idle, lowest, or_else}
 use Rattle.pg_board.specs.declared.queues.Queue.{Queue}
 
 -- the numbers of the lines that are given to a session, where the first of the lines has the number `first`

@@ -1,11 +1,11 @@
 -- The counts that an act raises have room for one more.
 use Rattle.std.specs.Prelude.{◌≡◌, ◌<◌, ◌-◌, ◌^◌, length}
-use Rattle.pg_model.specs.declared.journal.EntryAct.{EntryAct}
-use Rattle.pg_model.specs.declared.journal.EntryAct.TheVariants as act
-use Rattle.pg_model.specs.declared.world.Running.{Running}
-use Rattle.pg_model.specs.declared.world.Progress.TheVariants.{Inside}
-use Rattle.pg_model.specs.declared.world.SessionView.{SessionView}
-use Rattle.pg_model.specs.declared.world.World.{World}
+use Rattle.pg_first_path.specs.declared.journal.EntryAct.{EntryAct}
+use Rattle.pg_first_path.specs.declared.journal.EntryAct.TheVariants as act
+use Rattle.pg_first_path.specs.declared.world.Running.{Running}
+use Rattle.pg_first_path.specs.declared.world.Progress.TheVariants.{Inside}
+use Rattle.pg_first_path.specs.declared.world.SessionView.{SessionView}
+use Rattle.pg_first_path.specs.declared.world.World.{World}
 
 -- transactions and commits are numbered below 2^32
 abbrev pub HasRoom : World → EntryAct → Type 0

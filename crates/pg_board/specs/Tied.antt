@@ -1,10 +1,10 @@
 -- What holds of the parts of a board.
 use Rattle.std.specs.Prelude.{ℕ, ◌≡◌, ◌≤◌, List, length}
-use Rattle.pg_model.specs.declared.script.Script.{Script}
-use Rattle.pg_model.specs.declared.journal.Entry.{Entry}
-use Rattle.pg_model.specs.declared.world.World.{World}
-use Rattle.pg_model.specs.Journals.{IsLegal, world_after}
-use Rattle.pg_model.specs.Sound.{IsSound}
+use Rattle.pg_first_path.specs.declared.script.Script.{Script}
+use Rattle.pg_first_path.specs.declared.journal.Entry.{Entry}
+use Rattle.pg_first_path.specs.declared.world.World.{World}
+use Rattle.pg_first_path.specs.Journals.{IsLegal, world_after}
+use Rattle.pg_first_path.specs.Sound.{IsSound}
 use Rattle.pg_board.specs.declared.queues.Queue.{Queue}
 use Rattle.pg_board.specs.Queues.{AreQueues}
 

@@ -1,8 +1,8 @@
 ghost use Rattle.std.specs.Prelude.{◌≡◌, ◌≢◌, ◌↔◌, ◌<◌, ◌+◌, All, IfErr, IfOk, IfSome, IsTrue, false, OnErr, None, OnOk, Some, length, nat_lt, true};
-ghost use Rattle.pg_model.specs.Journals.{IsLegal, world_after};
-ghost use Rattle.pg_model.specs.Moves.{moves_of};
-ghost use Rattle.pg_model.specs.Rows.{tables_of};
-ghost use Rattle.pg_model.specs.Stepped.{first_of_list, is_closed, next_session, ready, settled};
+ghost use Rattle.pg_first_path.specs.Journals.{IsLegal, world_after};
+ghost use Rattle.pg_first_path.specs.Moves.{moves_of};
+ghost use Rattle.pg_first_path.specs.Rows.{tables_of};
+ghost use Rattle.pg_first_path.specs.Stepped.{first_of_list, is_closed, next_session, ready, settled};
 ghost use Rattle.pg_board.specs.Board.{MovedBy, first_board, has_ended, is_unqueued, waits_for_lines};
 
 use crate::effects::perform_next;
@@ -11,8 +11,8 @@ use crate::moves::next_act;
 use crate::queues::{Queue, enqueue, line_of, new_queues, session_at};
 use crate::rows::copy_tables;
 use crate::schedule::{has_queued, ready_session, remaining_session, stands_idle};
+use pg_first_path::{Entry, EntryAct, Finished, Script, World};
 use pg_lists::{Items, TryCopy};
-use pg_model::{Entry, EntryAct, Finished, Script, World};
 use std::alloc::{AllocError, Global};
 use std::marker::Model;
 

@@ -3,15 +3,15 @@ ghost use Rattle.std.specs.Option.{option_copied};
 ghost use Rattle.pg_board.specs.Queues.{numbers_of};
 ghost use Rattle.pg_board.specs.Room.{HasRoom, HasRoomIn};
 ghost use Rattle.pg_lists.specs.Numbered.{changed_from_one, numbered};
-ghost use Rattle.pg_model.specs.Worlds.{session_of};
-ghost use Rattle.pg_model.specs.Effect.{act_effect, at_session, closed, committed, effect, found, inserted, placed, placed_values, proposed, replied, snapped, settled, waiting_values, with_running};
+ghost use Rattle.pg_first_path.specs.Worlds.{session_of};
+ghost use Rattle.pg_first_path.specs.Effect.{act_effect, at_session, closed, committed, effect, found, inserted, placed, placed_values, proposed, replied, snapped, settled, waiting_values, with_running};
 
 use crate::queues::{Queue, line_in};
-use pg_lists::{Items, TryCopy};
-use pg_model::{
+use pg_first_path::{
     EntryAct, Line, Progress, Row, Running, Script, SessionView, Stage, Statement, Status,
     TableView, Transaction, Version, World,
 };
+use pg_lists::{Items, TryCopy};
 use pg_values::Values;
 use std::alloc::{AllocError, Global};
 use std::mem;

@@ -1,8 +1,10 @@
 ghost use Rattle.std.specs.Prelude.{◌≡◌, IfOk, map};
-ghost use Rattle.pg_model.specs.Worlds.{empty_table, first_world, fresh_session};
+ghost use Rattle.pg_first_path.specs.Worlds.{empty_table, first_world, fresh_session};
 
+use pg_first_path::{
+    Catalogue, Names, Progress, Script, SessionView, TableView, Transactions, World,
+};
 use pg_lists::Items;
-use pg_model::{Catalogue, Names, Progress, Script, SessionView, TableView, Transactions, World};
 use std::alloc::{AllocError, Global};
 
 /// The tables after setup: no row number was drawn.

@@ -1,13 +1,13 @@
 ghost use Rattle.std.specs.Prelude.{◌≡◌, ◌<◌, length};
 ghost use Rattle.std.specs.Option.{option_copied};
-ghost use Rattle.pg_model.specs.Worlds.{table_of};
-ghost use Rattle.pg_model.specs.Moves.{ending_moves, placing_moves, session_moves, statement_moves};
-ghost use Rattle.pg_model.specs.Stepped.{first_of_list};
+ghost use Rattle.pg_first_path.specs.Worlds.{table_of};
+ghost use Rattle.pg_first_path.specs.Moves.{ending_moves, placing_moves, session_moves, statement_moves};
+ghost use Rattle.pg_first_path.specs.Stepped.{first_of_list};
 
-use pg_lists::Items;
-use pg_model::{
+use pg_first_path::{
     EntryAct, Line, Progress, Reply, Running, SessionView, Stage, Statement, Tag, World,
 };
+use pg_lists::Items;
 use std::alloc::Global;
 
 /// The first act that is permitted to a session that stands at that line, or `None` where none is.

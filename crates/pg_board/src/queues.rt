@@ -1,12 +1,12 @@
 ghost use Rattle.std.specs.Prelude.{◌≡◌, ◌<◌, ◌+◌, ◌-◌, ◌^◌, IfOk, IfSome, Some, length, option_map};
 ghost use Rattle.pg_lists.specs.Numbered.{changed, numbered};
-ghost use Rattle.pg_model.specs.Worlds.{session_of};
+ghost use Rattle.pg_first_path.specs.Worlds.{session_of};
 ghost use Rattle.std.specs.Option.{option_copied};
-ghost use Rattle.pg_model.specs.Lines.{line_at};
+ghost use Rattle.pg_first_path.specs.Lines.{line_at};
 ghost use Rattle.pg_board.specs.Queues.{AreQueues, numbers_of, queue_of, queued_more};
 
+use pg_first_path::{Line, Script, SessionView, World};
 use pg_lists::Items;
-use pg_model::{Line, Script, SessionView, World};
 use std::alloc::{AllocError, Global};
 
 /// The lines of a session.

@@ -1,9 +1,9 @@
 ghost use Rattle.std.specs.Prelude.{◌≡◌, IfOk, IsTrue, true};
 ghost use Rattle.std.specs.Option.{option_copied};
-ghost use Rattle.pg_model.specs.Rows.{committed_rows, is_committed, live, tables_of};
+ghost use Rattle.pg_first_path.specs.Rows.{committed_rows, is_committed, live, tables_of};
 
+use pg_first_path::{Row, Rows, Status, TableView, Tables, Transaction, Version, World};
 use pg_lists::{Items, TryCopy};
-use pg_model::{Row, Rows, Status, TableView, Tables, Transaction, Version, World};
 use pg_values::Values;
 use std::alloc::{AllocError, Global};
 

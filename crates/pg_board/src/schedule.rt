@@ -1,9 +1,9 @@
 ghost use Rattle.std.specs.Prelude.{◌≡◌, ◌≤◌, ◌<◌, ◌&&◌, IsTrue, None, length, true};
-ghost use Rattle.pg_model.specs.Stepped.{continuing, is_idle, is_inside, lowest, remaining};
+ghost use Rattle.pg_first_path.specs.Stepped.{continuing, is_idle, is_inside, lowest, remaining};
 ghost use Rattle.pg_board.specs.Queues.{has_taken, ready_by};
 
 use crate::queues::Queue;
-use pg_model::{Progress, SessionView, World};
+use pg_first_path::{Progress, SessionView, World};
 
 /// Whether the session is between two statements.
 pub fn stands_idle(x: &SessionView) -> bool

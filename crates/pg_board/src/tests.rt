@@ -1,12 +1,12 @@
 ghost use Rattle.std.specs.Prelude.{◌≡◌, ◌∷◌, [], IfOk, length};
-ghost use Rattle.pg_model.specs.declared.script.Statement.TheVariants.{Insert};
+ghost use Rattle.pg_first_path.specs.declared.script.Statement.TheVariants.{Insert};
 ghost use Rattle.pg_values.specs.declared.value.Value.TheVariants.{Int};
 
 use super::*;
-use pg_lists::Items;
-use pg_model::{
+use pg_first_path::{
     Column, EntryAct, Finished, Journal, Line, Name, Script, Statement, TableShape, Tables, Tag,
 };
+use pg_lists::Items;
 use pg_values::{Kind, Value};
 use std::alloc::{AllocError, Global};
 use std::process::Abort;

@@ -2,6 +2,7 @@ ghost use Rattle.std.specs.Prelude.{◌≡◌, IfOk, ◌↔◌, IsTrue};
 ghost use Rattle.pg_exprs.specs.Tree.{literal, column as column_tree, action, unary, binary};
 
 use crate::operator::{BinaryOp, UnaryOp};
+use pg_lists::{IsSame, TryCopy};
 use pg_values::{Value, copy_value};
 use std::alloc::{AllocError, Global};
 use std::marker::Model;
@@ -114,5 +115,17 @@ impl Expr {
                 && b.is_same(d),
             _ => false,
         }
+    }
+}
+
+impl TryCopy for Expr {
+    fn try_copy(&self, alloc: Global) -> Result<Expr, AllocError> {
+        self.copy(alloc)
+    }
+}
+
+impl IsSame for Expr {
+    fn is_same(&self, other: &Expr) -> bool {
+        Expr::is_same(self, other)
     }
 }

@@ -101,14 +101,15 @@ all_pass p (x ∷ xs) within = ⊎_elim
     let stop : prefix_len (λ y. not (not (p y))) (x ∷ xs) ≡ 0 = cond-false _ _ _ (ap (λ b. not (not b)) fail) in absurd (omega arith))
     (cases_Bool (p x))
 
-none_fails : (p : ℕ → Bool) (xs : List ℕ) → position (λ x. not (p x)) xs ≡ None → list_all p xs ≡ true
+-- where none fails, all pass
+pub none_fails : (p : ℕ → Bool) (xs : List ℕ) → position (λ x. not (p x)) xs ≡ None → list_all p xs ≡ true
 none_fails p xs none = ⊎_elim
     (λ early. let some = cond-true (leb (suc (prefix_len (λ x. not (not (p x))) xs)) (length xs)) (Some (prefix_len (λ x. not (not (p x))) xs)) None early in cc)
     (λ late. all_pass p xs (ltb-false (prefix_len (λ x. not (not (p x))) xs) (length xs) late))
     (cases_Bool (leb (suc (prefix_len (λ x. not (not (p x))) xs)) (length xs)))
 
 -- a text whose written form is printed is printed
-printed_value : (value behind : List ℕ) → list_all is_printed (quoted value ++ behind) ≡ true → list_all is_printed value ≡ true
+pub printed_value : (value behind : List ℕ) → list_all is_printed (quoted value ++ behind) ≡ true → list_all is_printed value ≡ true
 unfolding quoted
 printed_value [] behind all = refl
 printed_value (b ∷ value) behind all = ⊎_elim
@@ -245,7 +246,7 @@ folded_rest (b ∷ bs) all =
     and_from _ _ (folded_byte b parts.0) (folded_rest bs parts.1)
 
 -- a word that is not too long is a name when it is folded
-folded_word : (w : List ℕ) → is_word w ≡ true → length w ≤ 63 → is_name (map to_ascii_lowercase w) ≡ true
+pub folded_word : (w : List ℕ) → is_word w ≡ true → length w ≤ 63 → is_name (map to_ascii_lowercase w) ≡ true
 unfolding is_name
 folded_word [] is short = is
 folded_word (b ∷ bs) is short =

@@ -22,3 +22,27 @@ impl TryCopy for u64 {
         Ok(*self)
     }
 }
+
+impl TryCopy for u32 {
+    fn try_copy(&self, _alloc: Global) -> Result<u32, AllocError> {
+        Ok(*self)
+    }
+}
+
+impl<T: TryCopy> TryCopy for Option<T> {
+    fn try_copy(&self, alloc: Global) -> Result<Option<T>, AllocError> {
+        match self {
+            None => Ok(None),
+            Some(value) => Ok(Some(value.try_copy(alloc)?)),
+        }
+    }
+}
+
+impl<T: TryCopy, E: TryCopy> TryCopy for Result<T, E> {
+    fn try_copy(&self, alloc: Global) -> Result<Result<T, E>, AllocError> {
+        match self {
+            Ok(value) => Ok(Ok(value.try_copy(alloc)?)),
+            Err(error) => Ok(Err(error.try_copy(alloc)?)),
+        }
+    }
+}

@@ -1,48 +1,23 @@
 -- The text of a run, and the text of a journal.
-use Rattle.std.specs.Prelude.{ℕ, ◌==◌, true, false, if◌then◌else◌, List, [], ◌∷◌, ◌++◌, codes, decimal, flat_map, map, unwrap_or}
-use Rattle.std.specs.Fmt.{signed_decimal}
-use Rattle.std.specs.List.{join_with_byte}
+use Rattle.std.specs.Prelude.{ℕ, List, [], ◌∷◌, ◌++◌, codes, decimal, flat_map, map, unwrap_or}
+use Rattle.pg_lists.specs.Numbered.{numbered}
 use Rattle.pg_values.specs.declared.value.Value.{Value}
-use Rattle.pg_values.specs.declared.value.Value.TheVariants.{Null, Bool as OfBool, Int, Big, Text}
 use Rattle.pg_model.specs.declared.catalogue.TableShape.{TableShape}
-use Rattle.pg_model.specs.declared.script.Script.{Script}
-use Rattle.pg_model.specs.declared.journal.Tag.{Tag}
-use Rattle.pg_model.specs.declared.journal.Tag.TheVariants.{Insert}
-use Rattle.pg_model.specs.declared.journal.Reply.{Reply}
+use Rattle.pg_model.specs.declared.error.SqlError.{SqlError}
 use Rattle.pg_model.specs.declared.journal.Entry.{Entry}
 use Rattle.pg_model.specs.declared.journal.EntryAct.{EntryAct}
-use Rattle.pg_model.specs.declared.journal.EntryAct.TheVariants.{Snapped, Found, Placed, Inserted, Committed, Replied, Closed}
-use Rattle.pg_lists.specs.Numbered.{numbered}
-use Rattle.pg_model.specs.Rows.{tables_of}
-use Rattle.pg_model.specs.Journals.{world_after}
+use Rattle.pg_model.specs.declared.journal.EntryAct.TheVariants as act
+use Rattle.pg_model.specs.declared.journal.Reply.{Reply}
+use Rattle.pg_model.specs.declared.script.Script.{Script}
+use Rattle.pg_model.specs.Errors.{error_state, error_text}
+use Rattle.pg_model.specs.Texts.{ended, row_text, tag_text}
 
--- each line ends with LF
-abbrev pub ended : List ℕ → List ℕ
-ended line = line ++ 10 ∷ []
+-- the name of the session of that number, and of the table; a number that names none has the empty name
+abbrev pub session_name : Script → ℕ → List ℕ
+session_name script session = unwrap_or (numbered script.sessions session) []
 
--- a text with each ' doubled
-abbrev pub quoted : List ℕ → List ℕ
-quoted bytes = flat_map (λ byte. if byte == 39 then 39 ∷ 39 ∷ [] else byte ∷ []) bytes
-
--- NULL is `null`, a boolean `t` or `f`, a number is in decimal and a text between '
-abbrev pub value_text : Value → List ℕ
-value_text Null = codes "null"
-value_text (OfBool true) = codes "t"
-value_text (OfBool false) = codes "f"
-value_text (Int number) = signed_decimal number
-value_text (Big number) = signed_decimal number
-value_text (Text bytes) = 39 ∷ (quoted bytes ++ 39 ∷ [])
-
--- the values of a row, joined by |
-abbrev pub row_text : List Value → List ℕ
-row_text values = join_with_byte 124 (map value_text values)
-
-abbrev pub tag_text : Tag → List ℕ
-tag_text (Insert rows) = codes "INSERT 0 " ++ decimal rows
-
--- the name of the session or table of that number
-abbrev pub name_of : List (List ℕ) → ℕ → List ℕ
-name_of names number = unwrap_or (numbered names number) []
+abbrev pub table_name : Script → ℕ → List ℕ
+table_name script table = unwrap_or (numbered (map (λ shape. shape.name) script.catalogue) table) []
 
 -- a reply: `name> VALUES` for each returned row, then `name: TAG`
 abbrev pub reply_text : List ℕ → Reply → List ℕ
@@ -50,18 +25,24 @@ reply_text name reply =
     flat_map (λ row. ended (name ++ codes "> " ++ row_text row)) reply.rows
     ++ ended (name ++ codes ": " ++ tag_text reply.tag)
 
--- what an entry prints: a reply its lines, and any other entry nothing
+-- a failure: `name: ERROR STATE: TEXT`
+abbrev pub failure_text : List ℕ → SqlError → List ℕ
+failure_text name error = ended (name ++ codes ": ERROR " ++ error_state error ++ codes ": " ++ error_text error)
+
+-- what an entry prints: a reply or a failure its lines, and any other entry nothing
 abbrev pub act_text : List ℕ → EntryAct → List ℕ
-act_text name (Replied reply) = reply_text name reply
-act_text name (Snapped commits) = []
-act_text name (Found number) = []
-act_text name (Placed table row) = []
-act_text name (Inserted table row) = []
-act_text name Committed = []
-act_text name Closed = []
+act_text name (act.Snapped commits) = []
+act_text name (act.Found number) = []
+act_text name (act.Placed table row) = []
+act_text name (act.Inserted table row) = []
+act_text name act.Committed = []
+act_text name act.RolledBack = []
+act_text name (act.Replied reply) = reply_text name reply
+act_text name (act.Failed error) = failure_text name error
+act_text name act.Closed = []
 
 abbrev pub entry_text : Script → Entry → List ℕ
-entry_text script entry = act_text (name_of script.sessions entry.session) entry.act
+entry_text script entry = act_text (session_name script entry.session) entry.act
 
 -- a table: `table NAME`, then a line for each row
 abbrev pub table_text : TableShape → List (List Value) → List ℕ
@@ -73,32 +54,30 @@ tables_text [] tables = []
 tables_text (shape ∷ shapes) [] = []
 tables_text (shape ∷ shapes) (rows ∷ tables) = table_text shape rows ++ tables_text shapes tables
 
--- the text of a journal with these tables: the replies in journal order, then the tables
+-- the text of a journal with these tables: replies and failures in the order of the journal, then the tables
 abbrev pub run_text : Script → List Entry → List (List (List Value)) → List ℕ
 run_text script journal tables = flat_map (entry_text script) journal ++ tables_text script.catalogue tables
 
--- the printed text of a journal, with the tables as it leaves them
-abbrev pub printed : Script → List Entry → List ℕ
-printed script journal = run_text script journal (tables_of (world_after script journal))
-
--- the name of the table of that number
-abbrev pub table_name : Script → ℕ → List ℕ
-table_name script table = name_of (map (λ shape. shape.name) script.catalogue) table
+-- an act on a row: what was done, the table and the row's number
+abbrev pub row_words : Script → List ℕ → ℕ → ℕ → List ℕ
+row_words script done table row = done ++ codes " " ++ table_name script table ++ codes " " ++ decimal row
 
 -- what an act reads as in the text of a journal
 abbrev pub act_words : Script → EntryAct → List ℕ
-act_words script (Snapped commits) = codes "snapped " ++ decimal commits
-act_words script (Found number) = codes "found " ++ decimal number
-act_words script (Placed table row) = codes "placed " ++ table_name script table ++ codes " " ++ decimal row
-act_words script (Inserted table row) = codes "inserted " ++ table_name script table ++ codes " " ++ decimal row
-act_words script Committed = codes "committed"
-act_words script (Replied reply) =
+act_words script (act.Snapped commits) = codes "snapped " ++ decimal commits
+act_words script (act.Found number) = codes "found " ++ decimal number
+act_words script (act.Placed table row) = row_words script (codes "placed") table row
+act_words script (act.Inserted table row) = row_words script (codes "inserted") table row
+act_words script act.Committed = codes "committed"
+act_words script act.RolledBack = codes "rolled back"
+act_words script (act.Replied reply) =
     codes "replied " ++ tag_text reply.tag ++ flat_map (λ row. codes " (" ++ row_text row ++ codes ")") reply.rows
-act_words script Closed = codes "closed"
+act_words script (act.Failed error) = codes "failed " ++ error_state error ++ codes " " ++ error_text error
+act_words script act.Closed = codes "closed"
 
 -- a line of a journal: the session's name and what it did
 abbrev pub entry_line : Script → Entry → List ℕ
-entry_line script entry = ended (name_of script.sessions entry.session ++ codes " " ++ act_words script entry.act)
+entry_line script entry = ended (session_name script entry.session ++ codes " " ++ act_words script entry.act)
 
 -- the text of a journal: a line for each entry
 abbrev pub journal_text : Script → List Entry → List ℕ

@@ -1,37 +1,37 @@
 -- What holds of each script that was read.
-use Rattle.std.specs.Prelude.{ℕ, Bool, ◌&&◌, ◌==◌, nat_le, nat_lt, List, length, Option, None, Some, false}
-use Rattle.std.specs.List.{list_all}
-use Rattle.pg_values.specs.declared.value.Value.{Value}
+use Rattle.std.specs.Prelude.{ℕ, ◌≡◌, ◌<◌, ◌≤◌, ◌+◌, true, List, length, Result}
+use Rattle.std.specs.List.{list_all, All}
+use Rattle.std.specs.Result.{ForOk}
+use Rattle.pg_names.specs.Names.{are_distinct}
 use Rattle.pg_model.specs.declared.catalogue.TableShape.{TableShape}
-use Rattle.pg_model.specs.declared.script.Statement.{Statement}
-use Rattle.pg_model.specs.declared.script.Statement.TheVariants.{Insert}
+use Rattle.pg_model.specs.declared.error.SqlError.{SqlError}
+use Rattle.pg_model.specs.declared.script.Content.{Content}
+use Rattle.pg_model.specs.declared.script.Content.TheVariants as content
 use Rattle.pg_model.specs.declared.script.Line.{Line}
-use Rattle.pg_model.specs.Names.{are_distinct}
-use Rattle.pg_lists.specs.Numbered.{numbered}
+use Rattle.pg_model.specs.declared.script.SetupInsert.{SetupInsert}
+use Rattle.pg_model.specs.declared.statement.Statement.{Statement}
+use Rattle.pg_model.specs.Limits.{is_written, most_lines, most_sessions}
+use Rattle.pg_model.specs.Statements.{IsInsert, IsStatement, is_catalogue}
 
--- a script names at most this many sessions
-abbrev pub most_sessions : ℕ
-most_sessions = 32
+-- the session that a line names
+abbrev pub session_in : Content → ℕ
+session_in (content.Given session statement) = session
 
--- a script has at most this many bytes, and so no more lines
-abbrev pub most_bytes : ℕ
-most_bytes = 1048576
+-- the statement that a line gives to its session, or the error that its analysis found
+abbrev pub statement_in : Content → Result Statement SqlError
+statement_in (content.Given session statement) = statement
 
--- the rows have a value for each column of the table
-abbrev pub fits : List (List Value) → Option TableShape → Bool
-fits rows None = false
-fits rows (Some shape) = list_all (λ row. length row == length shape.columns) rows
-
--- the statement names a table that exists, and its rows fit there
-abbrev pub is_statement : List TableShape → Statement → Bool
-is_statement catalogue (Insert table rows) = fits rows (numbered catalogue table)
-
--- the line names a session that exists, and its statement fits the catalogue
-abbrev pub is_line : ℕ → List TableShape → Line → Bool
-is_line sessions catalogue line = nat_lt line.session sessions && is_statement catalogue line.statement
+-- a line names one of the sessions, and its statement fits the catalogue
+pub record IsContent (sessions : ℕ) (catalogue : List TableShape) (content : Content) : Type 0 where
+  pub session : session_in content < sessions
+  pub statement : ForOk (statement_in content) (IsStatement catalogue)
 
 -- the parts of a script fit together, within the limits
-abbrev pub is_script : List (List ℕ) → List TableShape → List Line → Bool
-is_script sessions catalogue lines =
-    nat_le (length sessions) most_sessions && are_distinct sessions && nat_le (length lines) most_bytes
-    && list_all (is_line (length sessions) catalogue) lines
+pub record IsScript (sessions : List (List ℕ)) (catalogue : List TableShape) (setup : List SetupInsert) (lines : List Line) : Type 0 where
+  pub few_sessions : length sessions ≤ most_sessions
+  pub distinct : are_distinct sessions ≡ true
+  pub written : list_all is_written sessions ≡ true
+  pub tables : is_catalogue catalogue ≡ true
+  pub inserts : All (λ s. IsInsert catalogue s.insert) setup
+  pub contents : All (λ line. IsContent (length sessions) catalogue line.content) lines
+  pub few_lines : length setup + length lines ≤ most_lines

@@ -1,20 +1,23 @@
-ghost use Rattle.std.specs.Prelude.{◌≡◌, IfOk};
-
-use pg_lists::{Items, TryCopy};
+use crate::SqlError;
+use pg_lists::Items;
 use pg_values::Values;
-use std::alloc::{AllocError, Global};
 
-/// Rows of values, as VALUES lists them or a reply returns them.
+/// Rows of values, as a reply returns them or a table holds them.
 pub type Rows = Items<Values>;
 
 /// The tag of a reply: what the statement did, and to how many rows.
 #[derive(Clone, Copy, Debug, PartialEq, Eq)]
 pub enum Tag {
-    /// `INSERT 0 n`.
+    Begin,
+    Commit,
+    Rollback,
+    /// `INSERT 0 n`
     Insert(u64),
+    /// `SELECT n`
+    Select(u64),
 }
 
-/// The reply to a statement: its tag and the rows that it returns.
+/// The reply to a statement: its tag and the rows that it returns. An integer in these rows is kept as a bigint.
 #[derive(Debug, Drop)]
 pub struct Reply {
     pub tag: Tag,
@@ -23,7 +26,7 @@ pub struct Reply {
 
 /// What a session did in one atomic step.
 ///
-/// Rows, candidates and transactions are numbered from 1; row numbers are per table.
+/// Rows, candidates and transactions are numbered from 1, tables from 0; row numbers are per table.
 #[derive(Debug, Drop)]
 pub enum EntryAct {
     /// The statement took its snapshot: it sees that many commits.
@@ -36,8 +39,12 @@ pub enum EntryAct {
     Inserted { table: u32, row: u64 },
     /// The transaction committed.
     Committed,
+    /// A ROLLBACK ended the open transaction.
+    RolledBack,
     /// The statement was answered.
     Replied(Reply),
+    /// The statement has failed, which ends the transaction.
+    Failed(SqlError),
     /// The session ended.
     Closed,
 }

@@ -1,25 +1,21 @@
-//! What a script, a journal and the world that a journal leaves are, and the definitions of what
-//! Read Committed permits.
+//! What a script, a statement, an error and a journal are, once they are read: catalogues, statements whose names are
+//! resolved, and the entries that a run leaves.
 #![tactic(auto)]
 
 mod catalogue;
+mod error;
 mod journal;
-mod laws;
-mod name;
 mod script;
+mod statement;
+mod target;
 #[cfg(test)]
 mod tests;
-mod world;
 
-pub use catalogue::{Catalogue, Column, Columns, TableShape};
+pub use catalogue::{Catalogue, Check, Checks, Column, Columns, TableShape};
+pub use error::{Counted, SqlError};
 pub use journal::{Entry, EntryAct, Finished, Journal, Reply, Rows, Tables, Tag};
-pub use laws::{
-    kept_by_permitted_entries, legal_by_permitted_entries, next_session_moves,
-    one_reply_for_each_line, one_stepped_journal, weight_falls, worked_examples,
+pub use script::{Content, Line, Lines, Mode, Script, SetupInsert, SetupRows};
+pub use statement::{
+    ColumnNumbers, Exprs, Insert, NamedTable, ProposedRows, Select, Source, Sources, Statement,
 };
-pub use name::{Name, Names};
-pub use script::{Line, Lines, Script, Statement};
-pub use world::{
-    Progress, Row, Running, SessionView, Stage, Status, TableView, Transaction, Transactions,
-    Version, World,
-};
+pub use target::Target;

@@ -25,7 +25,7 @@ pub enum ReadAll {
     Memory,
 }
 
-/// Reads a source to its end, or until more than `limit` bytes were read.
+/// Reads a source to its end, or until more than `limit` bytes were read: of no input is more than `limit + 1` bytes read.
 pub fn read_all<S: Source>(alloc: Global, source: &mut S, limit: usize) -> ReadAll
     requires { limit < usize.MAX }
     ensures all { IfAll result (λ bytes. ReadsWhole (S.left source.old) (S.left source.new) bytes) }
@@ -33,6 +33,7 @@ pub fn read_all<S: Source>(alloc: Global, source: &mut S, limit: usize) -> ReadA
     ensures long { IfTooLong result (λ bytes. Consumes (S.left source.old) (S.left source.new) bytes) }
     ensures over { IfTooLong result (λ bytes. length bytes ≡ limit + 1) }
     ensures lost { OnLost result (ReadsFront (S.left source.old) (S.left source.new) limit) }
+    ensures short { ReadsFront (S.left source.old) (S.left source.new) (limit + 1) }
     ensures later { S.faults source.old ≤ S.faults source.new }
     ensures failed { result ≡ ReadAll.Failed → Rose (S.faults source.old) (S.faults source.new) }
 {

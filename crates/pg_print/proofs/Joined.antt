@@ -2,9 +2,9 @@
 use Rattle.std.proofs.Common.{◌≡◌, ℕ, List, [], ◌∷◌, ◌++◌, ap, rules, append_assoc}
 use Rattle.std.specs.Prelude.{flat_map}
 use Rattle.pg_values.specs.declared.value.Value.{Value}
-use Rattle.pg_model.specs.Printed.{row_text, value_text}
+use Rattle.pg_model.specs.Texts.{row_text, value_text}
 
-first_and_more : (x : Value) (xs : List Value) →
+pub first_and_more : (x : Value) (xs : List Value) →
     row_text (x ∷ xs) ≡ value_text x ++ flat_map (λ value. 124 ∷ value_text value) xs
 first_and_more x [] = search rules
 first_and_more x (y ∷ ys) = ap (λ rest. value_text x ++ (124 ∷ rest)) (first_and_more y ys)

@@ -1,1 +1,7 @@
 pub mod Joined
+pub mod Fronts
+pub mod Values
+pub mod Rows
+pub mod Named
+pub mod Failures
+pub mod Entries

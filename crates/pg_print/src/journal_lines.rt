@@ -1,34 +1,48 @@
 ghost use Rattle.std.specs.Prelude.{◌≡◌, ◌++◌, IfOk, OnOk, codes, decimal, drop, flat_map};
-ghost use Rattle.pg_model.specs.Printed.{act_words, entry_line, journal_text, row_text, tag_text};
+ghost use Rattle.pg_model.specs.Printed.{act_words, entry_line, journal_text, row_words};
+ghost use Rattle.pg_model.specs.Texts.{row_text, tag_text};
 
+use crate::errors::put_error;
 use crate::pieces::{put_number, put_row, put_tag, session_name, table_name};
-use pg_model::{Entry, EntryAct, Reply, Script, TableShape};
+use pg_lists::Items;
+use pg_model::{Entry, EntryAct, Reply, Script};
 use pg_values::Values;
 use std::alloc::{AllocError, Global};
 
-/// The text of a journal of a script: a line for each entry, `session WORDS`, ended by LF.
+/// The text of a journal of a script: the line of each entry, as `write_entry` gives it.
 ///
-/// The words of an entry are `snapped COMMITS`, `found NUMBER`, `placed TABLE ROW`,
-/// `inserted TABLE ROW`, `committed`, `replied INSERT 0 n (VALUES) ..` or `closed`. A number that is
-/// not one of the script's sessions or tables has the empty name. Refuses for want of memory alone.
+/// Refuses for want of memory alone.
 pub fn journal_text(
     alloc: Global,
     script: &Script,
     journal: &[Entry],
-) -> Result<Vec<u8>, AllocError>
-    ensures { IfOk result (λ text. text.items ≡ journal_text script.now journal.now) }
+) -> Result<Items<u8>, AllocError>
+    ensures { IfOk result (λ text. text ≡ journal_text script.now journal.now) }
 {
     let mut out = Vec::new(alloc);
     for entry in journal {
         put_line(&mut out, script, entry)?;
     }
-    Ok(out)
+    Ok(Items::from_vec(out))
+}
+
+/// The line of an entry in the text of a journal, `session WORDS`, ended by LF.
+///
+/// The words of an entry are `snapped COMMITS`, `found NUMBER`, `placed TABLE ROW`, `inserted TABLE ROW`, `committed`,
+/// `rolled back`, `replied TAG (VALUES) ..`, `failed STATE TEXT` or `closed`. A number that is not one of the script's
+/// sessions or tables has the empty name. Refuses for want of memory alone.
+pub fn write_entry(alloc: Global, script: &Script, entry: &Entry) -> Result<Items<u8>, AllocError>
+    ensures { IfOk result (λ text. text ≡ entry_line script.now entry.now) }
+{
+    let mut out = Vec::new(alloc);
+    put_line(&mut out, script, entry)?;
+    Ok(Items::from_vec(out))
 }
 
 fn put_line(out: &mut Vec<u8>, script: &Script, entry: &Entry) -> Result<(), AllocError>
     ensures { OnOk result (out.new.items ≡ out.old.items ++ entry_line script.now entry.now) }
 {
-    out.extend_from_slice(session_name(script.sessions.as_slice(), entry.session))?;
+    out.extend_from_slice(session_name(script, entry.session))?;
     out.push(b' ')?;
     put_act(out, script, &entry.act)?;
     out.push(b'\n')?;
@@ -38,18 +52,18 @@ fn put_line(out: &mut Vec<u8>, script: &Script, entry: &Entry) -> Result<(), All
 fn put_act(out: &mut Vec<u8>, script: &Script, act: &EntryAct) -> Result<(), AllocError>
     ensures { OnOk result (out.new.items ≡ out.old.items ++ act_words script.now act.now) }
 {
-    let shapes = script.catalogue.as_slice();
     match act {
         EntryAct::Snapped(commits) => put_counted(out, b"snapped ", u64::from(*commits)),
         EntryAct::Found(number) => put_counted(out, b"found ", *number),
-        EntryAct::Placed { table, row } => {
-            put_placed(out, b"placed ", table_name(shapes, *table), *row)
-        }
-        EntryAct::Inserted { table, row } => {
-            put_placed(out, b"inserted ", table_name(shapes, *table), *row)
-        }
+        EntryAct::Placed { table, row } => put_on_row(out, script, b"placed", *table, *row),
+        EntryAct::Inserted { table, row } => put_on_row(out, script, b"inserted", *table, *row),
         EntryAct::Committed => out.extend_from_slice(b"committed"),
+        EntryAct::RolledBack => out.extend_from_slice(b"rolled back"),
         EntryAct::Replied(reply) => put_replied(out, reply),
+        EntryAct::Failed(error) => {
+            out.extend_from_slice(b"failed ")?;
+            put_error(out, b" ", error)
+        }
         EntryAct::Closed => out.extend_from_slice(b"closed"),
     }
 }
@@ -61,16 +75,24 @@ fn put_counted(out: &mut Vec<u8>, word: &[u8], number: u64) -> Result<(), AllocE
     put_number(out, number)
 }
 
-fn put_placed(out: &mut Vec<u8>, word: &[u8], table: &[u8], row: u64) -> Result<(), AllocError>
-    ensures { OnOk result (out.new.items ≡ out.old.items ++ word.now ++ table.now ++ codes " " ++ decimal row) }
+fn put_on_row(
+    out: &mut Vec<u8>,
+    script: &Script,
+    done: &[u8],
+    table: u32,
+    row: u64,
+) -> Result<(), AllocError>
+    ensures { OnOk result (out.new.items ≡ out.old.items ++ row_words script.now done.now table row) }
 {
-    out.extend_from_slice(word)?;
-    out.extend_from_slice(table)?;
+    out.extend_from_slice(done)?;
+    out.push(b' ')?;
+    out.extend_from_slice(table_name(script, table))?;
     put_counted(out, b" ", row)
 }
 
 fn put_replied(out: &mut Vec<u8>, reply: &Reply) -> Result<(), AllocError>
-    ensures { OnOk result (out.new.items ≡ out.old.items ++ codes "replied " ++ tag_text reply.now.tag ++ flat_map (λ row. codes " (" ++ row_text row ++ codes ")") reply.now.rows) }
+    ensures { OnOk result (out.new.items ≡ out.old.items ++ codes "replied " ++ tag_text reply.now.tag
+        ++ flat_map (λ row. codes " (" ++ row_text row ++ codes ")") reply.now.rows) }
 {
     out.extend_from_slice(b"replied ")?;
     put_tag(out, reply.tag)?;
@@ -78,7 +100,8 @@ fn put_replied(out: &mut Vec<u8>, reply: &Reply) -> Result<(), AllocError>
 }
 
 fn put_bracketed(out: &mut Vec<u8>, rows: &[Values]) -> Result<(), AllocError>
-    ensures { OnOk result (out.new.items ≡ out.old.items ++ flat_map (λ row. codes " (" ++ row_text row ++ codes ")") rows.now) }
+    ensures { OnOk result (out.new.items
+        ≡ out.old.items ++ flat_map (λ row. codes " (" ++ row_text row ++ codes ")") rows.now) }
 {
     for row in rows {
         out.extend_from_slice(b" (")?;

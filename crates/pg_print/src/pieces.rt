@@ -1,10 +1,11 @@
 // The parts that the texts are made of; each function appends one.
 ghost use Rattle.std.specs.Prelude.{◌≡◌, ◌++◌, ◌∷◌, [], OnOk, decimal, drop, flat_map, map};
 ghost use Rattle.std.specs.Fmt.{signed_decimal};
-ghost use Rattle.pg_model.specs.Printed.{name_of, quoted, row_text, tag_text, value_text};
+ghost use Rattle.pg_model.specs.Printed.{session_name, table_name};
+ghost use Rattle.pg_model.specs.Texts.{quoted, row_text, tag_text, value_text};
 
 use itoa::Buffer;
-use pg_model::{Name, TableShape, Tag};
+use pg_model::{Script, Tag};
 use pg_values::Value;
 use std::alloc::AllocError;
 
@@ -44,7 +45,7 @@ fn put_text(out: &mut Vec<u8>, bytes: &[u8]) -> Result<(), AllocError>
     Ok(())
 }
 
-pub fn put_value(out: &mut Vec<u8>, value: &Value) -> Result<(), AllocError>
+fn put_value(out: &mut Vec<u8>, value: &Value) -> Result<(), AllocError>
     ensures { OnOk result (out.new.items ≡ out.old.items ++ value_text value.now) }
 {
     match value {
@@ -58,7 +59,8 @@ pub fn put_value(out: &mut Vec<u8>, value: &Value) -> Result<(), AllocError>
 }
 
 fn put_more_values(out: &mut Vec<u8>, values: &[Value]) -> Result<(), AllocError>
-    ensures { OnOk result (out.new.items ≡ out.old.items ++ flat_map (λ value. 124 ∷ value_text value) values.now) }
+    ensures { OnOk result (out.new.items
+        ≡ out.old.items ++ flat_map (λ value. 124 ∷ value_text value) values.now) }
 {
     for value in values {
         out.push(b'|')?;
@@ -81,28 +83,35 @@ pub fn put_tag(out: &mut Vec<u8>, tag: Tag) -> Result<(), AllocError>
     ensures { OnOk result (out.new.items ≡ out.old.items ++ tag_text tag) }
 {
     match tag {
+        Tag::Begin => out.extend_from_slice(b"BEGIN"),
+        Tag::Commit => out.extend_from_slice(b"COMMIT"),
+        Tag::Rollback => out.extend_from_slice(b"ROLLBACK"),
         Tag::Insert(rows) => {
             out.extend_from_slice(b"INSERT 0 ")?;
+            put_number(out, rows)
+        }
+        Tag::Select(rows) => {
+            out.extend_from_slice(b"SELECT ")?;
             put_number(out, rows)
         }
     }
 }
 
 /// The name of a session, which is empty where there is none of that number.
-pub fn session_name(names: &[Name], session: u32) -> &[u8]
-    ensures { result.now ≡ name_of names.now session }
+pub fn session_name(script: &Script, session: u32) -> &[u8]
+    ensures { result.now ≡ session_name script.now session }
 {
-    match names.get(session as usize) {
-        Some(name) => name.as_slice(),
+    match script.sessions.get(session as usize) {
+        Some(name) => name,
         None => b"",
     }
 }
 
 /// The name of a table, which is empty where there is none of that number.
-pub fn table_name(shapes: &[TableShape], table: u32) -> &[u8]
-    ensures { result.now ≡ name_of (map (λ shape. shape.name) shapes.now) table }
+pub fn table_name(script: &Script, table: u32) -> &[u8]
+    ensures { result.now ≡ table_name script.now table }
 {
-    match shapes.get(table as usize) {
+    match script.catalogue.get(table as usize) {
         Some(shape) => shape.name.as_slice(),
         None => b"",
     }

@@ -1,22 +1,24 @@
 ghost use Rattle.std.specs.Prelude.{◌≡◌, ◌++◌, IfOk, OnOk, codes, drop, flat_map, length};
-ghost use Rattle.pg_model.specs.Printed.{ended, entry_text, reply_text, row_text, run_text, table_text, tables_text};
+ghost use Rattle.pg_model.specs.Printed.{entry_text, failure_text, reply_text, run_text, table_text, tables_text};
+ghost use Rattle.pg_model.specs.Texts.{ended, row_text};
 
+use crate::errors::put_error;
 use crate::pieces::{put_row, put_tag, session_name};
-use pg_model::{Entry, EntryAct, Finished, Reply, Rows, Script, TableShape};
+use pg_lists::Items;
+use pg_model::{Entry, EntryAct, Finished, Reply, Rows, Script, SqlError, TableShape};
 use pg_values::Values;
 use std::alloc::{AllocError, Global};
 
-/// The text of a run of a script: the replies in journal order, and then the committed rows of each
-/// table, in order of declaration.
+/// The text of a run of a script: the replies and failures in journal order, and then the committed rows of each table,
+/// in order of declaration.
 ///
-/// Each line ends with LF. A row that a reply returns is a line `session> VALUES`, and the reply
-/// itself `session: INSERT 0 n`. A table is a line `table NAME` and a line for each row. Values are
-/// joined by `|`: NULL is `null`, a boolean `t` or `f`, a number is in decimal, and a text stands
-/// between `'` with each `'` in it doubled. A number that is not one of the script's sessions has
-/// the empty name. Tables are printed as long as there are both a name and rows. Refuses for want
-/// of memory alone.
-pub fn print(alloc: Global, script: &Script, finished: &Finished) -> Result<Vec<u8>, AllocError>
-    ensures { IfOk result (λ text. text.items ≡ run_text script.now finished.now.journal finished.now.tables) }
+/// Each line ends with LF. A row that a reply returns is a line `session> VALUES`, the reply itself `session: TAG`, and
+/// a failure `session: ERROR STATE: TEXT`. A table is a line `table NAME` and a line for each row. Values are joined by
+/// `|`: NULL is `null`, a boolean `t` or `f`, a number is in decimal, and a text stands between `'` with each `'` in it
+/// doubled. A number that is not one of the script's sessions has the empty name. Tables are printed as long as there
+/// are both a name and rows. Refuses for want of memory alone.
+pub fn print(alloc: Global, script: &Script, finished: &Finished) -> Result<Items<u8>, AllocError>
+    ensures { IfOk result (λ text. text ≡ run_text script.now finished.now.journal finished.now.tables) }
 {
     let mut out = Vec::new(alloc);
     put_entries(&mut out, script, finished.journal.as_slice())?;
@@ -25,7 +27,7 @@ pub fn print(alloc: Global, script: &Script, finished: &Finished) -> Result<Vec<
         script.catalogue.as_slice(),
         finished.tables.as_slice(),
     )?;
-    Ok(out)
+    Ok(Items::from_vec(out))
 }
 
 fn put_entries(out: &mut Vec<u8>, script: &Script, entries: &[Entry]) -> Result<(), AllocError>
@@ -40,16 +42,16 @@ fn put_entries(out: &mut Vec<u8>, script: &Script, entries: &[Entry]) -> Result<
 fn put_entry(out: &mut Vec<u8>, script: &Script, entry: &Entry) -> Result<(), AllocError>
     ensures { OnOk result (out.new.items ≡ out.old.items ++ entry_text script.now entry.now) }
 {
+    let name = session_name(script, entry.session);
     match &entry.act {
-        EntryAct::Replied(reply) => {
-            let name = session_name(script.sessions.as_slice(), entry.session);
-            put_reply(out, name, reply)
-        }
+        EntryAct::Replied(reply) => put_reply(out, name, reply),
+        EntryAct::Failed(error) => put_failure(out, name, error),
         EntryAct::Snapped(_)
         | EntryAct::Found(_)
         | EntryAct::Placed { .. }
         | EntryAct::Inserted { .. }
         | EntryAct::Committed
+        | EntryAct::RolledBack
         | EntryAct::Closed => Ok(()),
     }
 }
@@ -66,7 +68,8 @@ fn put_reply(out: &mut Vec<u8>, name: &[u8], reply: &Reply) -> Result<(), AllocE
 }
 
 fn put_returned(out: &mut Vec<u8>, name: &[u8], rows: &[Values]) -> Result<(), AllocError>
-    ensures { OnOk result (out.new.items ≡ out.old.items ++ flat_map (λ row. ended (name.now ++ codes "> " ++ row_text row)) rows.now) }
+    ensures { OnOk result (out.new.items ≡ out.old.items
+        ++ flat_map (λ row. ended (name.now ++ codes "> " ++ row_text row)) rows.now) }
 {
     for row in rows {
         out.extend_from_slice(name)?;
@@ -74,6 +77,16 @@ fn put_returned(out: &mut Vec<u8>, name: &[u8], rows: &[Values]) -> Result<(), A
         put_row(out, row.as_slice())?;
         out.push(b'\n')?;
     }
+    Ok(())
+}
+
+fn put_failure(out: &mut Vec<u8>, name: &[u8], error: &SqlError) -> Result<(), AllocError>
+    ensures { OnOk result (out.new.items ≡ out.old.items ++ failure_text name.now error.now) }
+{
+    out.extend_from_slice(name)?;
+    out.extend_from_slice(b": ERROR ")?;
+    put_error(out, b": ", error)?;
+    out.push(b'\n')?;
     Ok(())
 }
 

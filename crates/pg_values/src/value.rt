@@ -1,7 +1,7 @@
 ghost use Rattle.std.specs.Prelude.{◌≡◌, IfOk};
 
 use crate::text::Text;
-use pg_lists::{Items, TryCopy};
+use pg_lists::{IsSame, Items, TryCopy};
 use std::alloc::{AllocError, Global};
 
 /// The kind of a value other than NULL, or of a column.
@@ -65,5 +65,11 @@ pub fn copy_value(alloc: Global, value: &Value) -> Result<Value, AllocError>
 impl TryCopy for Value {
     fn try_copy(&self, alloc: Global) -> Result<Value, AllocError> {
         copy_value(alloc, self)
+    }
+}
+
+impl IsSame for Value {
+    fn is_same(&self, other: &Value) -> bool {
+        self == other
     }
 }

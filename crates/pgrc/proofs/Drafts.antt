@@ -5,12 +5,12 @@ use Rattle.std.specs.List.{list_all}
 use Rattle.std.proofs.lemmas.Bool.{eq-eqb, eqb-true, le-leb, ltb-true}
 use Rattle.std.proofs.lemmas.Option.{cond_some}
 use Rattle.pg_values.specs.declared.value.Value.{Value}
-use Rattle.pg_model.specs.declared.catalogue.TableShape.{TableShape}
-use Rattle.pg_model.specs.declared.script.Line.{Line}
-use Rattle.pg_model.specs.declared.script.Statement.{Statement}
-use Rattle.pg_model.specs.declared.script.Statement.TheVariants.{Insert}
-use Rattle.pg_model.specs.Names.{are_distinct}
-use Rattle.pg_model.specs.Scripts.{is_line, is_statement, most_bytes}
+use Rattle.pg_first_path.specs.declared.catalogue.TableShape.{TableShape}
+use Rattle.pg_first_path.specs.declared.script.Line.{Line}
+use Rattle.pg_first_path.specs.declared.script.Statement.{Statement}
+use Rattle.pg_first_path.specs.declared.script.Statement.TheVariants.{Insert}
+use Rattle.pg_names.specs.Names.{are_distinct}
+use Rattle.pg_first_path.specs.Scripts.{is_line, is_statement, most_bytes}
 use Rattle.pgrc.specs.declared.draft.Draft.{Draft}
 use Rattle.pgrc.specs.declared.forms.Form.{Form}
 use Rattle.pgrc.specs.declared.forms.Form.TheVariants.{Declares, Inserts}

@@ -1,13 +1,13 @@
 -- The loop that replays a script: it makes one entry of the stepped order after the other.
 use Rattle.std.proofs.Common.{◌≡◌, ◌<◌, ℕ, List, Some, None, refl, subst, sym}
-use Rattle.pg_model.specs.declared.script.Script.{Script}
-use Rattle.pg_model.specs.declared.journal.Entry.{Entry}
-use Rattle.pg_model.specs.declared.world.World.{World}
-use Rattle.pg_model.specs.Journals.{IsComplete, IsLegal, world_after}
-use Rattle.pg_model.specs.Stepped.{IsStepped, next_session, settled}
-use Rattle.pg_model.specs.Runs.{StepsTo}
-use Rattle.pg_model.proofs.Runs.{entries_left, entries_fall, steps_to_first, steps_to_more, steps_stepped, steps_world, legal_stepped}
-use Rattle.pg_model.proofs.Complete.{steps_complete}
+use Rattle.pg_first_path.specs.declared.script.Script.{Script}
+use Rattle.pg_first_path.specs.declared.journal.Entry.{Entry}
+use Rattle.pg_first_path.specs.declared.world.World.{World}
+use Rattle.pg_first_path.specs.Journals.{IsComplete, IsLegal, world_after}
+use Rattle.pg_first_path.specs.Stepped.{IsStepped, next_session, settled}
+use Rattle.pg_first_path.specs.Runs.{StepsTo}
+use Rattle.pg_first_path.proofs.Runs.{entries_left, entries_fall, steps_to_first, steps_to_more, steps_stepped, steps_world, legal_stepped}
+use Rattle.pg_first_path.proofs.Complete.{steps_complete}
 use Rattle.pg_board.specs.Board.{BoardView, MovedBy, first_board}
 
 -- the board keeps the script, and has come so far by the stepped order

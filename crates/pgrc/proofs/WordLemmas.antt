@@ -2,7 +2,7 @@
 use Rattle.std.proofs.Common.{◌≡◌, ◌<◌, ◌≤◌, ◌+◌, ◌*◌, ◌-◌, ◌==◌, ◌&&◌, ◌||◌, ℕ, suc, Bool, true, false, cond, List, [], ◌∷◌, ◌++◌, length, take, drop, not, refl, ap, arith, ◌∙◌, max, nat_le, Some, None, pos}
 use Rattle.std.specs.List.{list_all, prefix_len}
 use Rattle.std.proofs.lemmas.Bool.{eqb-true, le-leb, lt-leb}
-use Rattle.pg_model.specs.Names.{is_name_byte}
+use Rattle.pg_names.specs.Names.{is_name_byte}
 use Rattle.pgrc.specs.Forms.{begins_with_digit, is_name, is_reserved, is_spelled}
 use Rattle.pgrc.specs.Reading.{small_number}
 use Rattle.pgrc.specs.Words.{begins_blank, glued, is_blank, is_word_byte, lines_in, number_from, without_last, words_in}

@@ -6,8 +6,8 @@ use Rattle.std.specs.declared.option.Option.{Option}
 use Rattle.std.specs.Io.KnownBytes.{Appends, Consumes}
 use Rattle.pg_outside.specs.Causes.{Rose}
 use Rattle.pg_outside.specs.Reads.{ReadsWhole}
-use Rattle.pg_model.specs.Printed.{ended}
-use Rattle.pg_model.specs.Scripts.{most_bytes}
+use Rattle.pg_first_path.specs.Printed.{ended}
+use Rattle.pg_first_path.specs.Scripts.{most_bytes}
 use Rattle.pgrc.specs.declared.script_fault.Reason.{Reason}
 use Rattle.pgrc.specs.declared.script_fault.Reason.TheVariants.{Size, Header, Later}
 use Rattle.pgrc.specs.declared.script_fault.Refusal.{Refusal}

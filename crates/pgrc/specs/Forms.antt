@@ -6,7 +6,7 @@ use Rattle.std.specs.Str.{bytes_eq}
 use Rattle.pgrc.specs.declared.forms.Form.{Form}
 use Rattle.pgrc.specs.declared.forms.Form.TheVariants.{Declares, Inserts}
 use Rattle.pg_lexer.specs.Keywords.{keyword_of, may_be_name}
-use Rattle.pg_model.specs.Names.{is_digit, is_name_byte}
+use Rattle.pg_names.specs.Names.{is_digit, is_name_byte}
 use Rattle.pgrc.specs.Words.{folded, without_last, words_in}
 
 -- the word is this one

@@ -4,11 +4,11 @@ use Rattle.std.specs.declared.option.Option.{Option}
 use Rattle.std.specs.Io.KnownBytes.{Appends}
 use Rattle.pg_outside.specs.Reads.{ReadsWhole}
 use Rattle.pg_outside.specs.Writes.{AppendsFront}
-use Rattle.pg_model.specs.declared.script.Script.{Script}
-use Rattle.pg_model.specs.declared.journal.Entry.{Entry}
-use Rattle.pg_model.specs.Journals.{IsComplete, IsLegal}
-use Rattle.pg_model.specs.Printed.{printed}
-use Rattle.pg_model.specs.Stepped.{IsStepped}
+use Rattle.pg_first_path.specs.declared.script.Script.{Script}
+use Rattle.pg_first_path.specs.declared.journal.Entry.{Entry}
+use Rattle.pg_first_path.specs.Journals.{IsComplete, IsLegal}
+use Rattle.pg_first_path.specs.Printed.{printed}
+use Rattle.pg_first_path.specs.Stepped.{IsStepped}
 use Rattle.pgrc.specs.declared.status.Report.{Report}
 use Rattle.pgrc.specs.Reading.{IsReadingOf}
 

@@ -1,10 +1,10 @@
 -- What is made of the input, before anything is written.
 use Rattle.std.specs.Prelude.{ℕ, ◌≡◌, List, Result, Ok, Err, ⊤}
 use Rattle.std.specs.declared.option.Option.{Option}
-use Rattle.pg_model.specs.Journals.{IsComplete, IsLegal}
-use Rattle.pg_model.specs.Stepped.{IsStepped}
-use Rattle.pg_model.specs.Printed.{printed}
-use Rattle.pg_model.specs.declared.script.Script.{Script}
+use Rattle.pg_first_path.specs.Journals.{IsComplete, IsLegal}
+use Rattle.pg_first_path.specs.Stepped.{IsStepped}
+use Rattle.pg_first_path.specs.Printed.{printed}
+use Rattle.pg_first_path.specs.declared.script.Script.{Script}
 use Rattle.pgrc.specs.declared.prepare.Fault.{Fault}
 use Rattle.pgrc.specs.declared.prepare.Fault.TheVariants.{Usage, Memory, Refused, Read}
 use Rattle.pgrc.specs.declared.prepare.Run.{Run}

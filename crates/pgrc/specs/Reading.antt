@@ -6,12 +6,12 @@ use Rattle.std.specs.Str.{bytes_eq}
 use Rattle.pg_values.specs.declared.value.Value.{Value}
 use Rattle.pg_values.specs.declared.value.Value.TheVariants.{Int}
 use Rattle.pg_values.specs.declared.value.Kind.TheVariants as kind
-use Rattle.pg_model.specs.declared.catalogue.TableShape.{TableShape}
-use Rattle.pg_model.specs.declared.script.Line.{Line}
-use Rattle.pg_model.specs.declared.script.Script.{Script}
-use Rattle.pg_model.specs.declared.script.Statement.TheVariants.{Insert}
-use Rattle.pg_model.specs.Names.{are_distinct, is_digit}
-use Rattle.pg_model.specs.Scripts.{is_script, most_bytes}
+use Rattle.pg_first_path.specs.declared.catalogue.TableShape.{TableShape}
+use Rattle.pg_first_path.specs.declared.script.Line.{Line}
+use Rattle.pg_first_path.specs.declared.script.Script.{Script}
+use Rattle.pg_first_path.specs.declared.script.Statement.TheVariants.{Insert}
+use Rattle.pg_names.specs.Names.{are_distinct, is_digit}
+use Rattle.pg_first_path.specs.Scripts.{is_script, most_bytes}
 use Rattle.pgrc.specs.declared.draft.Draft.{Draft}
 use Rattle.pgrc.specs.declared.forms.Form.{Form}
 use Rattle.pgrc.specs.declared.forms.Form.TheVariants.{Declares, Inserts}

@@ -1,6 +1,6 @@
 -- The lines and the words of a script.
 use Rattle.std.specs.Prelude.{ℕ, ◌+◌, ◌*◌, ◌-◌, ◌==◌, ◌&&◌, ◌||◌, Bool, true, false, if◌then◌else◌, nat_le, List, [], ◌∷◌, length, map, Option, None, Some}
-use Rattle.pg_model.specs.Names.{is_digit, is_lower}
+use Rattle.pg_names.specs.Names.{is_digit, is_lower}
 
 -- the list without its last item, where that passes a test
 abbrev pub without_last : {X : Type 0} → (X → Bool) → List X → List X

@@ -1,4 +1,4 @@
-use pg_model::{Lines, Name, TableShape};
+use pg_first_path::{Lines, Name, TableShape};
 
 /// A script as far as it was read: its one table, its one session and its statement lines.
 #[derive(Debug, Drop)]

@@ -1,6 +1,8 @@
-ghost use Rattle.std.specs.Prelude.{◌≡◌, ◌≢◌, ◌↔◌, ◌⊎◌, ◌≤◌, ℕ, Err, IfOk, IfErr, List, Ok, Some, false, true};
+ghost use Rattle.std.specs.Prelude.{◌≡◌, ◌≢◌, ◌↔◌, ◌⊎◌, ◌≤◌, ◌+◌, ℕ, Err, IfOk, IfErr, List, Ok, Some, false, true};
 ghost use Rattle.std.specs.Io.KnownBytes.{Appends};
+ghost use Rattle.pg_first_path.specs.Scripts.{most_bytes};
 ghost use Rattle.pg_outside.specs.Causes.{Rose};
+ghost use Rattle.pg_outside.specs.Reads.{ReadsFront};
 ghost use Rattle.pg_outside.specs.Writes.{AppendsFront};
 ghost use Rattle.pgrc.specs.Commands.{IsCalm, IsTold, TellsRefusal, is_command as is_one_command, status_text};
 ghost use Rattle.pgrc.specs.Headline.{Headline, IsCutShort, IsEmpty};
@@ -12,8 +14,8 @@ ghost use Rattle.pgrc.specs.declared.script_fault.Refusal.{Refusal};
 use crate::messages::{tell, tell_refusal};
 use crate::prepare::{Fault, Run, prepare};
 use crate::status::{Report, Status};
+use pg_first_path::Script;
 use pg_lists::Items;
-use pg_model::Script;
 use pg_outside::{Gate, Sink, Source, write_all};
 use std::alloc::Global;
 use std::sync::Wait;
@@ -37,6 +39,8 @@ pub fn top<R: Threads + Wait + Sync, S: Source, K: Sink, E: Sink, G: Gate + Sync
     ensures usage { (result.status ≡ Status.Usage) ↔ (is_one_command words.now ≡ false) }
     ensures unread { result.status ≡ Status.Usage → source.new ≡ source.old }
     ensures refused { result.status ≡ Status.Refused → TellsRefusal (S.left source.old) (S.left source.new) (E.taken errors.old) (E.taken errors.new) (E.faults errors.old) (E.faults errors.new) }
+    // Whatever the status, at most one byte more is read than a script may have.
+    ensures short { ReadsFront (S.left source.old) (S.left source.new) (most_bytes + 1) }
     ensures unreadable { result.status ≡ Status.ReadFault → Rose (S.faults source.old) (S.faults source.new) }
     ensures cut { result.status ≡ Status.WriteFault → IsCutShort (S.left source.old) (S.left source.new) (K.taken sink.old) (K.taken sink.new) result }
     ensures unwritable { result.status ≡ Status.WriteFault → Rose (K.faults sink.old) (K.faults sink.new) }
@@ -75,6 +79,8 @@ pub fn replay_top<S: Source, K: Sink, E: Sink>(
     ensures usage { (result.status ≡ Status.Usage) ↔ (is_one_command words.now ≡ false) }
     ensures unread { result.status ≡ Status.Usage → source.new ≡ source.old }
     ensures refused { result.status ≡ Status.Refused → TellsRefusal (S.left source.old) (S.left source.new) (E.taken errors.old) (E.taken errors.new) (E.faults errors.old) (E.faults errors.new) }
+    // Whatever the status, at most one byte more is read than a script may have.
+    ensures short { ReadsFront (S.left source.old) (S.left source.new) (most_bytes + 1) }
     ensures unreadable { result.status ≡ Status.ReadFault → Rose (S.faults source.old) (S.faults source.new) }
     ensures cut { result.status ≡ Status.WriteFault → IsCutShort (S.left source.old) (S.left source.new) (K.taken sink.old) (K.taken sink.new) result }
     ensures unwritable { result.status ≡ Status.WriteFault → Rose (K.faults sink.old) (K.faults sink.new) }

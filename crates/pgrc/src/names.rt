@@ -1,7 +1,7 @@
 ghost use Rattle.std.specs.Prelude.{◌≡◌, FitsSigned, IfSome, true};
 ghost use Rattle.std.specs.Int.{w32};
 ghost use Rattle.std.specs.List.{list_all};
-ghost use Rattle.pg_model.specs.Names.{is_digit as is_a_digit, is_name_byte as is_a_name_byte};
+ghost use Rattle.pg_names.specs.Names.{is_digit as is_a_digit, is_name_byte as is_a_name_byte};
 ghost use Rattle.pgrc.specs.Reading.{small_number};
 ghost use Rattle.pgrc.specs.Forms.{begins_with_digit as has_digit_first, is_free as is_none_of_them, is_name as is_a_name, is_session as is_a_session, is_reserved as is_a_reserved_word, is_spelled as is_spelled_well};
 

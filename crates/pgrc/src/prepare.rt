@@ -1,17 +1,19 @@
 // What is made of the words and the input, before anything is written.
-ghost use Rattle.std.specs.Prelude.{◌≡◌, ◌≢◌, ◌↔◌, ◌≤◌, Err, IfErr, IfOk, false};
-ghost use Rattle.pg_model.specs.Printed.{printed};
+ghost use Rattle.std.specs.Prelude.{◌≡◌, ◌≢◌, ◌↔◌, ◌≤◌, ◌+◌, Err, IfErr, IfOk, false};
+ghost use Rattle.pg_first_path.specs.Printed.{printed};
+ghost use Rattle.pg_first_path.specs.Scripts.{most_bytes};
 ghost use Rattle.pg_outside.specs.Causes.{Rose};
+ghost use Rattle.pg_outside.specs.Reads.{ReadsFront};
 ghost use Rattle.pgrc.specs.Commands.{is_command as is_one_command};
 ghost use Rattle.pgrc.specs.Prepared.{IfRefused, IsMade, IsRunOf, ReadsTo};
 
 use crate::read::{MOST_BYTES, read_script};
 use crate::replay::replay;
 use crate::script_fault::{Refusal, ScriptFault};
+use pg_first_path::{Journal, Script};
+use pg_first_print::print;
 use pg_lists::Items;
-use pg_model::{Journal, Script};
 use pg_outside::{ReadAll, Source, read_all};
-use pg_print::print;
 use std::alloc::{AllocError, Global};
 
 /// A run of a script and its text.
@@ -36,11 +38,13 @@ pub enum Fault {
 }
 
 /// Reads the input of a command, and makes the run and the text of it.
+#[tactic(auto, using(crate::proofs::Fronts::reads_nothing))]
 pub fn prepare<S: Source>(alloc: Global, words: &[String], source: &mut S) -> Result<Run, Fault>
     ensures made { IfOk result (IsMade (S.left source.old) (S.left source.new)) }
     ensures refused { IfRefused (S.left source.old) (S.left source.new) result }
     ensures usage { (result ≡ Err Fault.Usage) ↔ (is_one_command words.now ≡ false) }
     ensures unread { result ≡ Err Fault.Usage → source.new ≡ source.old }
+    ensures short { ReadsFront (S.left source.old) (S.left source.new) (most_bytes + 1) }
     ensures failed { result ≡ Err Fault.Read → Rose (S.faults source.old) (S.faults source.new) }
     ensures later { S.faults source.old ≤ S.faults source.new }
 {
@@ -69,6 +73,7 @@ fn read_source<S: Source>(alloc: Global, source: &mut S) -> Result<Script, Fault
     ensures script { IfOk result (ReadsTo (S.left source.old) (S.left source.new)) }
     ensures refused { IfRefused (S.left source.old) (S.left source.new) result }
     ensures usage { result ≢ Err Fault.Usage }
+    ensures short { ReadsFront (S.left source.old) (S.left source.new) (most_bytes + 1) }
     ensures failed { result ≡ Err Fault.Read → Rose (S.faults source.old) (S.faults source.new) }
     ensures later { S.faults source.old ≤ S.faults source.new }
 {

@@ -3,7 +3,7 @@ ghost use Rattle.std.specs.List.{list_all, list_any};
 ghost use Rattle.std.specs.Option.{option_copied, option_map_or};
 ghost use Rattle.std.specs.Str.{bytes_eq};
 ghost use Rattle.pg_values.specs.declared.value.Kind.{Kind};
-ghost use Rattle.pg_model.specs.Names.{are_distinct, is_name_byte};
+ghost use Rattle.pg_names.specs.Names.{are_distinct, is_name_byte};
 ghost use Rattle.pgrc.specs.declared.forms.Form.{Form};
 ghost use Rattle.pgrc.specs.declared.script_fault.ScriptFault.{ScriptFault};
 ghost use Rattle.pgrc.specs.Words.{bytes_behind, lines_behind, words_in};
@@ -15,8 +15,8 @@ use crate::forms::{Form, Word, Words, form_of};
 use crate::names::{has_digits, is_name, is_session, number_of};
 use crate::script_fault::{Reason, Refusal, ScriptFault};
 use crate::words::{is_comment, next_line, next_word, without_cr};
+use pg_first_path::{Column, Columns, Line, Name, Script, Statement, TableShape};
 use pg_lists::Items;
-use pg_model::{Column, Columns, Line, Name, Script, Statement, TableShape};
 use pg_values::{Kind, Value, Values};
 use std::alloc::{AllocError, Global};
 

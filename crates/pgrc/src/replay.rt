@@ -1,11 +1,11 @@
 ghost use Rattle.std.specs.Prelude.{◌≡◌, ◌<◌, false, IfOk, length, OnOk};
 ghost use Rattle.pg_board.specs.Board.{MovedBy, has_ended, waits_for_lines};
-ghost use Rattle.pg_model.specs.Journals.{IsComplete, IsLegal, world_after};
-ghost use Rattle.pg_model.specs.Rows.{tables_of};
-ghost use Rattle.pg_model.specs.Stepped.{IsStepped};
+ghost use Rattle.pg_first_path.specs.Journals.{IsComplete, IsLegal, world_after};
+ghost use Rattle.pg_first_path.specs.Rows.{tables_of};
+ghost use Rattle.pg_first_path.specs.Stepped.{IsStepped};
 
 use pg_board::{Board, Step};
-use pg_model::{Finished, Script};
+use pg_first_path::{Finished, Script};
 use std::alloc::{AllocError, Global};
 
 /// Runs a script in the stepped order until each session has ended.

@@ -1,4 +1,4 @@
-use pg_model::{Journal, Script};
+use pg_first_path::{Journal, Script};
 
 /// How a call of the program ended.
 #[derive(Clone, Copy, Debug, PartialEq, Eq)]

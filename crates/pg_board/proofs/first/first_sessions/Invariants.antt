@@ -1,6 +1,6 @@
 -- A fresh session for each name so far.
 use Rattle.std.proofs.Common.{◌≡◌, map, take}
-use Rattle.pg_model.specs.Worlds.{fresh_session}
+use Rattle.pg_first_path.specs.Worlds.{fresh_session}
 use Rattle.pg_board.proofs.first.first_sessions.Given as goal
 
 abbrev pub invariant-loop-name : goal.invariant-loop-name

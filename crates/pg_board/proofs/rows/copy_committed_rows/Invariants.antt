@@ -1,7 +1,7 @@
 -- What was copied, with the committed rows to come, is all of them.
 use Rattle.std.proofs.Common.{◌≡◌, ◌++◌, drop}
 use Rattle.std.specs.Prelude.{filter_map}
-use Rattle.pg_model.specs.Rows.{live}
+use Rattle.pg_first_path.specs.Rows.{live}
 use Rattle.pg_board.proofs.rows.copy_committed_rows.Given as goal
 
 abbrev pub invariant-loop-row : goal.invariant-loop-row

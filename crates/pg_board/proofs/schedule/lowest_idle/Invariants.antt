@@ -1,6 +1,6 @@
 -- No session so far is it.
 use Rattle.std.proofs.Common.{◌≡◌, drop}
-use Rattle.pg_model.specs.Stepped.{is_idle, lowest}
+use Rattle.pg_first_path.specs.Stepped.{is_idle, lowest}
 use Rattle.pg_board.proofs.schedule.lowest_idle.Given as goal
 
 abbrev pub invariant-loop-session : goal.invariant-loop-session

@@ -1,7 +1,7 @@
 -- The rows to come make up what is wanted.
 use Rattle.std.proofs.Common.{◌≡◌, ◌++◌, drop}
 use Rattle.std.specs.Prelude.{codes, flat_map}
-use Rattle.pg_model.specs.Printed.{row_text}
+use Rattle.pg_model.specs.Texts.{row_text}
 use Rattle.pg_print.proofs.journal_lines.put_bracketed.Given as goal
 
 abbrev pub invariant-loop-row : goal.invariant-loop-row

@@ -1,6 +1,6 @@
 -- The bytes to come make up what is wanted.
 use Rattle.std.proofs.Common.{◌≡◌, ◌++◌, drop}
-use Rattle.pg_model.specs.Printed.{quoted}
+use Rattle.pg_model.specs.Texts.{quoted}
 use Rattle.pg_print.proofs.pieces.put_doubled.Given as goal
 
 abbrev pub invariant-loop-byte : goal.invariant-loop-byte

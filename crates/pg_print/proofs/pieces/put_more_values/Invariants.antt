@@ -1,7 +1,7 @@
 -- The values to come make up what is wanted.
 use Rattle.std.proofs.Common.{◌≡◌, ◌++◌, ◌∷◌, drop}
 use Rattle.std.specs.Prelude.{flat_map}
-use Rattle.pg_model.specs.Printed.{value_text}
+use Rattle.pg_model.specs.Texts.{value_text}
 use Rattle.pg_print.proofs.pieces.put_more_values.Given as goal
 
 abbrev pub invariant-loop-value : goal.invariant-loop-value

@@ -1,7 +1,7 @@
 -- The rows to come make up what is wanted.
 use Rattle.std.proofs.Common.{◌≡◌, ◌++◌, drop}
 use Rattle.std.specs.Prelude.{codes, flat_map}
-use Rattle.pg_model.specs.Printed.{ended, row_text}
+use Rattle.pg_model.specs.Texts.{ended, row_text}
 use Rattle.pg_print.proofs.run_text.put_returned.Given as goal
 
 abbrev pub invariant-loop-row : goal.invariant-loop-row

@@ -1,6 +1,6 @@
 -- The words so far differ from all others.
 use Rattle.std.proofs.Common.{◌≡◌, length}
-use Rattle.pg_model.specs.Names.{are_distinct}
+use Rattle.pg_names.specs.Names.{are_distinct}
 use Rattle.pgrc.proofs.read.differ.Given as goal
 
 abbrev pub invariant-loop-rest : goal.invariant-loop-rest

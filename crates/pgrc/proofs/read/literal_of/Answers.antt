@@ -2,7 +2,7 @@ use Rattle.std.proofs.Common.{◌≡◌, Some, true, sym, refl}
 use Rattle.std.specs.Int.{w32}
 use Rattle.std.specs.List.{list_all}
 use Rattle.std.proofs.lemmas.Int.{to_z-of_z}
-use Rattle.pg_model.specs.Names.{is_digit}
+use Rattle.pg_names.specs.Names.{is_digit}
 use Rattle.pgrc.specs.Reading.{small_number}
 use Rattle.pgrc.proofs.read.literal_of.Goals as goal
 

@@ -1,6 +1,6 @@
 -- Each turn makes the next entry, and at the end no session moves next.
 use Rattle.std.proofs.Common.{◌∙◌, sym, ap}
-use Rattle.pg_model.specs.Rows.{tables_of}
+use Rattle.pg_first_path.specs.Rows.{tables_of}
 use Rattle.pgrc.proofs.Replaying.{on_way_more, on_way_end}
 use Rattle.pgrc.proofs.replay.replay.Goals as goal
 

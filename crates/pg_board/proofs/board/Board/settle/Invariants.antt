@@ -1,6 +1,6 @@
 -- Only lines were taken, and the settled schedule is the one that it was.
 use Rattle.std.proofs.Common.{◌≡◌, ◌-◌, length}
-use Rattle.pg_model.specs.Stepped.{settled}
+use Rattle.pg_first_path.specs.Stepped.{settled}
 use Rattle.pg_board.proofs.board.Board.settle.Given as goal
 
 abbrev pub invariant-loop-self : goal.invariant-loop-self

@@ -1,5 +1,5 @@
 use Rattle.std.proofs.Common.{arith}
-use Rattle.pg_model.proofs.Sound.{script_limits}
+use Rattle.pg_first_path.proofs.Sound.{script_limits}
 use Rattle.pg_board.proofs.Taken.{taken_bound}
 use Rattle.pg_board.proofs.board.Board.take_line.Goals as goal
 

@@ -1,0 +1,9 @@
+pub mod Built
+pub mod Scope
+pub mod Resolved
+pub mod Causes
+pub mod Queries
+pub mod Inserts
+pub mod Tables
+pub mod Analysis
+pub mod Laws

@@ -1,0 +1,10 @@
+pub mod Lists
+pub mod Journals
+pub mod Needs
+pub mod Sound
+pub mod Weight
+pub mod Runs
+pub mod Schedules
+pub mod Replies
+pub mod Complete
+pub mod Worked

@@ -1,0 +1,15 @@
+pub mod Scripts
+pub mod Lines
+pub mod Rows
+pub mod Worlds
+pub mod Candidates
+pub mod Moves
+pub mod Effect
+pub mod Journals
+pub mod Sound
+pub mod Weight
+pub mod Stepped
+pub mod Runs
+pub mod Laws
+pub mod Printed
+pub mod Worked

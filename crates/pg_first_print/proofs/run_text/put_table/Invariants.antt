@@ -1,0 +1,10 @@
+-- The rows to come make up what is wanted.
+use Rattle.std.proofs.Common.{◌≡◌, ◌++◌, drop}
+use Rattle.std.specs.Prelude.{flat_map}
+use Rattle.pg_first_path.specs.Printed.{ended, row_text}
+use Rattle.pg_first_print.proofs.run_text.put_table.Given as goal
+
+abbrev pub invariant-loop-row : goal.invariant-loop-row
+invariant-loop-row l =
+    l.out.items ++ flat_map (λ row. ended (row_text row)) (drop l.row-index l.rows)
+    ≡ l.initial.out.items ++ flat_map (λ row. ended (row_text row)) l.rows

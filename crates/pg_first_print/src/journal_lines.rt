@@ -1,0 +1,89 @@
+ghost use Rattle.std.specs.Prelude.{◌≡◌, ◌++◌, IfOk, OnOk, codes, decimal, drop, flat_map};
+ghost use Rattle.pg_first_path.specs.Printed.{act_words, entry_line, journal_text, row_text, tag_text};
+
+use crate::pieces::{put_number, put_row, put_tag, session_name, table_name};
+use pg_first_path::{Entry, EntryAct, Reply, Script, TableShape};
+use pg_values::Values;
+use std::alloc::{AllocError, Global};
+
+/// The text of a journal of a script: a line for each entry, `session WORDS`, ended by LF.
+///
+/// The words of an entry are `snapped COMMITS`, `found NUMBER`, `placed TABLE ROW`,
+/// `inserted TABLE ROW`, `committed`, `replied INSERT 0 n (VALUES) ..` or `closed`. A number that is
+/// not one of the script's sessions or tables has the empty name. Refuses for want of memory alone.
+pub fn journal_text(
+    alloc: Global,
+    script: &Script,
+    journal: &[Entry],
+) -> Result<Vec<u8>, AllocError>
+    ensures { IfOk result (λ text. text.items ≡ journal_text script.now journal.now) }
+{
+    let mut out = Vec::new(alloc);
+    for entry in journal {
+        put_line(&mut out, script, entry)?;
+    }
+    Ok(out)
+}
+
+fn put_line(out: &mut Vec<u8>, script: &Script, entry: &Entry) -> Result<(), AllocError>
+    ensures { OnOk result (out.new.items ≡ out.old.items ++ entry_line script.now entry.now) }
+{
+    out.extend_from_slice(session_name(script.sessions.as_slice(), entry.session))?;
+    out.push(b' ')?;
+    put_act(out, script, &entry.act)?;
+    out.push(b'\n')?;
+    Ok(())
+}
+
+fn put_act(out: &mut Vec<u8>, script: &Script, act: &EntryAct) -> Result<(), AllocError>
+    ensures { OnOk result (out.new.items ≡ out.old.items ++ act_words script.now act.now) }
+{
+    let shapes = script.catalogue.as_slice();
+    match act {
+        EntryAct::Snapped(commits) => put_counted(out, b"snapped ", u64::from(*commits)),
+        EntryAct::Found(number) => put_counted(out, b"found ", *number),
+        EntryAct::Placed { table, row } => {
+            put_placed(out, b"placed ", table_name(shapes, *table), *row)
+        }
+        EntryAct::Inserted { table, row } => {
+            put_placed(out, b"inserted ", table_name(shapes, *table), *row)
+        }
+        EntryAct::Committed => out.extend_from_slice(b"committed"),
+        EntryAct::Replied(reply) => put_replied(out, reply),
+        EntryAct::Closed => out.extend_from_slice(b"closed"),
+    }
+}
+
+fn put_counted(out: &mut Vec<u8>, word: &[u8], number: u64) -> Result<(), AllocError>
+    ensures { OnOk result (out.new.items ≡ out.old.items ++ word.now ++ decimal number) }
+{
+    out.extend_from_slice(word)?;
+    put_number(out, number)
+}
+
+fn put_placed(out: &mut Vec<u8>, word: &[u8], table: &[u8], row: u64) -> Result<(), AllocError>
+    ensures { OnOk result (out.new.items ≡ out.old.items ++ word.now ++ table.now ++ codes " " ++ decimal row) }
+{
+    out.extend_from_slice(word)?;
+    out.extend_from_slice(table)?;
+    put_counted(out, b" ", row)
+}
+
+fn put_replied(out: &mut Vec<u8>, reply: &Reply) -> Result<(), AllocError>
+    ensures { OnOk result (out.new.items ≡ out.old.items ++ codes "replied " ++ tag_text reply.now.tag ++ flat_map (λ row. codes " (" ++ row_text row ++ codes ")") reply.now.rows) }
+{
+    out.extend_from_slice(b"replied ")?;
+    put_tag(out, reply.tag)?;
+    put_bracketed(out, reply.rows.as_slice())
+}
+
+fn put_bracketed(out: &mut Vec<u8>, rows: &[Values]) -> Result<(), AllocError>
+    ensures { OnOk result (out.new.items ≡ out.old.items ++ flat_map (λ row. codes " (" ++ row_text row ++ codes ")") rows.now) }
+{
+    for row in rows {
+        out.extend_from_slice(b" (")?;
+        put_row(out, row.as_slice())?;
+        out.push(b')')?;
+    }
+    Ok(())
+}

@@ -1,0 +1,49 @@
+-- The state and the text of each error.
+use Rattle.std.specs.Prelude.{ℕ, List, ◌++◌, codes}
+use Rattle.pg_model.specs.declared.error.Counted.{Counted}
+use Rattle.pg_model.specs.declared.error.Counted.TheVariants as counted
+use Rattle.pg_model.specs.declared.error.SqlError.{SqlError}
+use Rattle.pg_model.specs.declared.error.SqlError.TheVariants as error
+
+-- the SQLSTATE, as five digits and letters
+abbrev pub error_state : SqlError → List ℕ
+error_state error.Aborted = codes "25P02"
+error_state (error.NoRelation name) = codes "42P01"
+error_state (error.SameAlias name) = codes "42712"
+error_state (error.NoColumn name) = codes "42703"
+error_state (error.ColumnTwice name) = codes "42701"
+error_state (error.Ambiguous name) = codes "42702"
+error_state error.WrongCount = codes "42601"
+error_state error.NoOperator = codes "42883"
+error_state error.WrongKind = codes "42804"
+error_state (error.RelationExists name) = codes "42P07"
+error_state (error.TooMany counted) = codes "54000"
+error_state error.TooLong = codes "54000"
+error_state error.IntRange = codes "22003"
+error_state error.BigRange = codes "22003"
+error_state error.ZeroDivisor = codes "22012"
+
+-- a name between "
+abbrev pub named : List ℕ → List ℕ
+named name = codes "\"" ++ name ++ codes "\""
+
+abbrev pub counted_text : Counted → List ℕ
+counted_text counted.Tables = codes "tables"
+counted_text counted.Columns = codes "columns"
+
+abbrev pub error_text : SqlError → List ℕ
+error_text error.Aborted = codes "current transaction is aborted, commands ignored until end of transaction block"
+error_text (error.NoRelation name) = codes "relation " ++ named name ++ codes " does not exist"
+error_text (error.SameAlias name) = codes "table name " ++ named name ++ codes " specified more than once"
+error_text (error.NoColumn name) = codes "column " ++ named name ++ codes " does not exist"
+error_text (error.ColumnTwice name) = codes "column " ++ named name ++ codes " specified more than once"
+error_text (error.Ambiguous name) = codes "column reference " ++ named name ++ codes " is ambiguous"
+error_text error.WrongCount = codes "wrong number of expressions"
+error_text error.NoOperator = codes "operator or function does not take these kinds"
+error_text error.WrongKind = codes "kinds do not fit"
+error_text (error.RelationExists name) = codes "relation " ++ named name ++ codes " already exists"
+error_text (error.TooMany counted) = codes "too many " ++ counted_text counted
+error_text error.TooLong = codes "text longer than 4096 bytes"
+error_text error.IntRange = codes "integer out of range"
+error_text error.BigRange = codes "bigint out of range"
+error_text error.ZeroDivisor = codes "division by zero"

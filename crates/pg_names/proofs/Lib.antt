@@ -1,0 +1,4 @@
+pub mod Mapped
+pub mod Distinct
+pub mod Same
+pub mod Fronts

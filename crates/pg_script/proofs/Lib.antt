@@ -1,0 +1,14 @@
+pub mod Bytes
+pub mod Appearances
+pub mod Firsts
+pub mod Held
+pub mod Stable
+pub mod Settled
+pub mod Steps
+pub mod Taken
+pub mod Says
+pub mod Reached
+pub mod Drafts
+pub mod Fitting
+pub mod OneReading
+pub mod Answering
