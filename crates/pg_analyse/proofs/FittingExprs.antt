@@ -9,14 +9,14 @@ use Rattle.pg_model.specs.Kinds.{has_columns, has_kind, is_expr}
 use Rattle.pg_model.specs.Limits.{height, most_nodes}
 use Rattle.pg_analyse.specs.declared.scope.Known.{Known}
 use Rattle.pg_analyse.proofs.Premises.{is_low}
-use Rattle.pg_analyse.specs.Resolved.{expr_errors, first_place, kind_in, operator_errors, place_of, place_or_first, resolved}
+use Rattle.pg_analyse.specs.Resolved.{expr_errors, first_place, kind_in, operator_errors, place_of, place_or_first, expr_of_tree}
 use Rattle.pg_analyse.specs.Scope.{places, scope_kinds}
 use Rattle.pg_analyse.proofs.Holding.{both, cons_nil, left_nil, right_nil, three}
 use Rattle.pg_analyse.proofs.Placing.{name_fits, qualified_fits}
 
 -- its columns exist
 pub columns_exist : (scope : List Known) (tree : Tree) → expr_errors scope tree ≡ [] →
-    has_columns (scope_kinds scope) (resolved scope tree) ≡ true
+    has_columns (scope_kinds scope) (expr_of_tree scope tree) ≡ true
 columns_exist scope (literal value) none = refl
 columns_exist scope (column name) none = name_fits name scope none
 columns_exist scope (column_of source name) none = qualified_fits scope source name none
@@ -24,7 +24,7 @@ columns_exist scope action none = refl
 columns_exist scope (unary op a) none =
     columns_exist scope a (left_nil (expr_errors scope a) (operator_errors (kind_in scope (unary op a))) none)
 columns_exist scope (binary op a b) none =
-    both (has_columns (scope_kinds scope) (resolved scope a)) (has_columns (scope_kinds scope) (resolved scope b))
+    both (has_columns (scope_kinds scope) (expr_of_tree scope a)) (has_columns (scope_kinds scope) (expr_of_tree scope b))
     (columns_exist scope a (left_nil (expr_errors scope a) (expr_errors scope b)
     (left_nil (expr_errors scope a ++ expr_errors scope b) (operator_errors (kind_in scope (binary op a b))) none)))
     (columns_exist scope b (right_nil (expr_errors scope a) (expr_errors scope b)
@@ -39,14 +39,14 @@ option_height None = refl
 option_height (Some place) = refl
 
 -- it is as high as it is written
-pub height_stays : (scope : List Known) (tree : Tree) → height (resolved scope tree) ≡ tree_height tree
+pub height_stays : (scope : List Known) (tree : Tree) → height (expr_of_tree scope tree) ≡ tree_height tree
 height_stays scope (literal value) = refl
 height_stays scope (column name) = place_height (places scope name)
 height_stays scope (column_of source name) = option_height (place_of scope source name)
 height_stays scope action = refl
 height_stays scope (unary op a) = ap suc (height_stays scope a)
 height_stays scope (binary op a b) =
-    ap (λ (n : ℕ). suc (max n (height (resolved scope b)))) (height_stays scope a)
+    ap (λ (n : ℕ). suc (max n (height (expr_of_tree scope b)))) (height_stays scope a)
     ∙ ap (λ (n : ℕ). suc (max (tree_height a) n)) (height_stays scope b)
 
 place_kind : (found : List (ℕ × ℕ)) (kinds : List (List (Option Kind))) →
@@ -80,8 +80,8 @@ kind_exists scope (binary op a b) none =
 -- with its limit kept and a kind that passes the test, it fits
 pub expr_fits : (test : Option Kind → Bool) (scope : List Known) (tree : Tree) → is_low tree ≡ true →
     expr_errors scope tree ≡ [] → has_kind test (kind_in scope tree) ≡ true →
-    is_expr test (scope_kinds scope) (resolved scope tree) ≡ true
+    is_expr test (scope_kinds scope) (expr_of_tree scope tree) ≡ true
 expr_fits test scope tree low none kind =
-    three (nat_le (height (resolved scope tree)) most_nodes) (has_columns (scope_kinds scope) (resolved scope tree))
+    three (nat_le (height (expr_of_tree scope tree)) most_nodes) (has_columns (scope_kinds scope) (expr_of_tree scope tree))
     (has_kind test (kind_in scope tree)) (ap (λ (n : ℕ). nat_le n most_nodes) (height_stays scope tree) ∙ low)
     (columns_exist scope tree none) kind

@@ -3,7 +3,7 @@ use Rattle.std.proofs.Common.{◌≡◌, refl, sym, ap, ◌∙◌, subst, arith,
 use Rattle.std.proofs.lemmas.Bool.{leb-true}
 use Rattle.std.specs.List.{cons_option, list_all}
 use Rattle.std.specs.Option.{option_map_or}
-use Rattle.pg_lists.specs.Numbered.{numbered}
+use Rattle.pg_lists.specs.Numbered.{item_at}
 use Rattle.pg_values.specs.declared.value.Kind.{Kind}
 use Rattle.pg_names.specs.Names.{is_among, number_of}
 use Rattle.pg_parse_expr.specs.Tree.{Tree}
@@ -18,7 +18,7 @@ use Rattle.pg_model.specs.Statements.{IsInsert, IsTableOf, is_row, is_value_of}
 use Rattle.pg_analyse.specs.Causes.{in_order}
 use Rattle.pg_analyse.specs.Inserts.{count_errors, insert_phases, inserted_into, is_count, listed_errors, listing_errors, numbers_from, store_errors, target_columns, tuples_of, value_errors}
 use Rattle.pg_analyse.proofs.Premises.{is_low}
-use Rattle.pg_analyse.specs.Resolved.{expr_errors, kind_errors, kind_in, resolved}
+use Rattle.pg_analyse.specs.Resolved.{expr_errors, kind_errors, kind_in, expr_of_tree}
 use Rattle.pg_analyse.specs.Scope.{again_errors, column_names}
 use Rattle.pg_analyse.proofs.FittingExprs.{expr_fits}
 use Rattle.pg_analyse.proofs.Holding.{both, else_nil, left_holds, left_nil, none_some, right_holds, right_nil}
@@ -88,11 +88,11 @@ row_counted columns (name ∷ names) count none counts =
     omega arith
 
 value_stored : (columns : List Column) (number : ℕ) (tree : Tree) (found : Option Column) →
-    numbered columns number ≡ found → nat_lt number (length columns) ≡ true → is_low tree ≡ true →
+    item_at columns number ≡ found → nat_lt number (length columns) ≡ true → is_low tree ≡ true →
     expr_errors [] tree ≡ [] →
     option_map_or (λ (to : Kind). kind_errors (λ from. may_be_stored from to) (kind_in [] tree))
     (option_map_or (λ (column : Column). Some column.kind) found None) [] ≡ [] →
-    option_map_or (λ (kind : Kind). is_stored kind [] (resolved [] tree))
+    option_map_or (λ (kind : Kind). is_stored kind [] (expr_of_tree [] tree))
     (option_map_or (λ (column : Column). Some column.kind) found None) false ≡ true
 value_stored columns number tree None is below low none stored =
     absurd (get_below columns number (ltb-true number (length columns) below) is)
@@ -103,12 +103,12 @@ value_stored columns number tree (Some column) is below low none stored =
 row_fits : (columns : List Column) (numbers : List ℕ) (row : List Tree) → length row ≤ length numbers →
     list_all (λ number. nat_lt number (length columns)) numbers ≡ true → list_all is_low row ≡ true →
     flat_map (expr_errors []) row ≡ [] → store_errors columns numbers row ≡ [] →
-    is_row columns numbers (map (resolved []) row) ≡ true
+    is_row columns numbers (map (expr_of_tree []) row) ≡ true
 row_fits columns numbers [] count below low none stored = refl
 row_fits columns [] (tree ∷ row) count below low none stored = absurd (omega arith)
 row_fits columns (number ∷ numbers) (tree ∷ row) count below low none stored =
-    both (is_value_of columns number (resolved [] tree)) (is_row columns numbers (map (resolved []) row))
-    (value_stored columns number tree (numbered columns number) refl
+    both (is_value_of columns number (expr_of_tree [] tree)) (is_row columns numbers (map (expr_of_tree []) row))
+    (value_stored columns number tree (item_at columns number) refl
     (left_holds (nat_lt number (length columns)) (list_all (λ n. nat_lt n (length columns)) numbers) below)
     (left_holds (is_low tree) (list_all is_low row) low)
     (left_nil (expr_errors [] tree) (flat_map (expr_errors []) row) none)
@@ -123,11 +123,11 @@ rows_fit : (columns : List Column) (names : List (List ℕ)) (rows : List (List 
     listed_errors columns [] names ≡ [] → list_all (list_all is_low) rows ≡ true →
     flat_map (count_errors columns names) rows ≡ [] → flat_map (flat_map (expr_errors [])) rows ≡ [] →
     flat_map (store_errors columns (target_columns columns names)) rows ≡ [] →
-    list_all (is_row columns (target_columns columns names)) (map (map (resolved [])) rows) ≡ true
+    list_all (is_row columns (target_columns columns names)) (map (map (expr_of_tree [])) rows) ≡ true
 rows_fit columns names [] listed low counts none stored = refl
 rows_fit columns names (row ∷ rows) listed low counts none stored =
-    both (is_row columns (target_columns columns names) (map (resolved []) row))
-    (list_all (is_row columns (target_columns columns names)) (map (map (resolved [])) rows))
+    both (is_row columns (target_columns columns names) (map (expr_of_tree []) row))
+    (list_all (is_row columns (target_columns columns names)) (map (map (expr_of_tree [])) rows))
     (row_fits columns (target_columns columns names) row
     (row_counted columns names (length row) listed
     (else_nil (is_count columns names (length row)) error.WrongCount
@@ -163,7 +163,7 @@ tuples_fit : (columns : List Column) (names : List (List ℕ)) (rows : List (Lis
     ++ (flat_map (flat_map (expr_errors [])) rows
     ++ (flat_map (store_errors columns (target_columns columns names)) rows ++ []))) ≡ [] →
     list_all (list_all is_low) rows ≡ true →
-    list_all (is_row columns (target_columns columns names)) (map (map (resolved [])) rows) ≡ true
+    list_all (is_row columns (target_columns columns names)) (map (map (expr_of_tree [])) rows) ≡ true
 tuples_fit columns names rows none low =
     rows_fit columns names rows
     (first_none (listed_errors columns [] names) (flat_map (count_errors columns names) rows)

@@ -4,7 +4,7 @@ use Rattle.std.proofs.lemmas.List.Elements.{All-nil, All-cons}
 use Rattle.std.proofs.lemmas.List.Folds.{list_all-append}
 use Rattle.std.specs.List.{cons_option, list_all}
 use Rattle.std.specs.Option.{option_map_or}
-use Rattle.pg_lists.specs.Numbered.{numbered}
+use Rattle.pg_lists.specs.Numbered.{item_at}
 use Rattle.pg_values.specs.declared.value.Kind.{Kind}
 use Rattle.pg_exprs.specs.Tree.{Tree as Resolved, column as resolved_column}
 use Rattle.pg_exprs.specs.Kinds.{is_boolean}
@@ -25,8 +25,8 @@ use Rattle.pg_model.specs.Statements.{IsSelect, IsSource, IsTableOf, is_where, s
 use Rattle.pg_analyse.specs.declared.scope.Known.{Known}
 use Rattle.pg_analyse.specs.Causes.{in_order}
 use Rattle.pg_analyse.proofs.Premises.{is_low_condition, is_low_item}
-use Rattle.pg_analyse.specs.Queries.{alias_errors, all_columns_from, columns_from, columns_of_source, existence_errors, item_errors, item_exprs, known_name, part_errors, reference_errors, relation_errors, scope_of, select_phases, selected, sources_of, table_named, table_names, tables_in, where_errors}
-use Rattle.pg_analyse.specs.Resolved.{expr_errors, kind_errors, kind_in, resolved}
+use Rattle.pg_analyse.specs.Queries.{alias_errors, all_columns_from, columns_from, columns_of_source, existence_errors, item_errors, item_exprs, known_name, part_errors, reference_errors, relation_errors, scope_of, select_phases, select_of_tree, sources_of, table_named, table_names, tables_in, where_errors}
+use Rattle.pg_analyse.specs.Resolved.{expr_errors, kind_errors, kind_in, expr_of_tree}
 use Rattle.pg_analyse.specs.Scope.{scope_kinds, source_named}
 use Rattle.pg_analyse.proofs.FittingExprs.{expr_fits, kind_exists}
 use Rattle.pg_analyse.proofs.Holding.{both, else_nil, left_holds, left_nil, none_some, right_holds, right_nil, some_same}
@@ -40,7 +40,7 @@ abbrev no_table : Option NamedTable
 no_table = None
 
 shape_found : (catalogue : List TableShape) (number : ℕ) (named : NamedTable) (found : Option TableShape) →
-    numbered catalogue number ≡ found →
+    item_at catalogue number ≡ found →
     option_map (with_shape number) found ≡ Some named →
     IsTableOf catalogue named
 shape_found catalogue number named None is e = absurd (none_some e)
@@ -49,17 +49,17 @@ shape_found catalogue number named (Some shape) is e =
 
 number_found : (catalogue : List TableShape) (named : NamedTable) (found : Option ℕ) →
     option_and_then (λ (number : ℕ). option_map (with_shape number)
-    (numbered catalogue number)) found ≡ Some named →
+    (item_at catalogue number)) found ≡ Some named →
     IsTableOf catalogue named
 number_found catalogue named None e = absurd (none_some e)
-number_found catalogue named (Some number) e = shape_found catalogue number named (numbered catalogue number) refl e
+number_found catalogue named (Some number) e = shape_found catalogue number named (item_at catalogue number) refl e
 
 -- a table that is found is the catalogue's
 pub found_table : (catalogue : List TableShape) (name : List ℕ) (named : NamedTable) →
     table_named catalogue name ≡ Some named → IsTableOf catalogue named
 found_table catalogue name named e = number_found catalogue named (number_of (table_names catalogue) name) e
 
-shape_there : (catalogue : List TableShape) (number : ℕ) (found : Option TableShape) → numbered catalogue number ≡ found →
+shape_there : (catalogue : List TableShape) (number : ℕ) (found : Option TableShape) → item_at catalogue number ≡ found →
     nat_lt number (length (table_names catalogue)) ≡ true →
     option_map (with_shape number) found ≡ no_table → ⊥
 shape_there catalogue number None is below e =
@@ -72,10 +72,10 @@ shape_there catalogue number (Some shape) is below e = none_some (sym e)
 number_there : (catalogue : List TableShape) (name : List ℕ) (found : Option ℕ) →
     number_of (table_names catalogue) name ≡ found → (found ≡ None → ⊥) →
     option_and_then (λ (number : ℕ). option_map (with_shape number)
-    (numbered catalogue number)) found ≡ no_table → ⊥
+    (item_at catalogue number)) found ≡ no_table → ⊥
 number_there catalogue name None is some e = some refl
 number_there catalogue name (Some number) is some e =
-    shape_there catalogue number (numbered catalogue number) refl (number_below (table_names catalogue) name number is) e
+    shape_there catalogue number (item_at catalogue number) refl (number_below (table_names catalogue) name number is) e
 
 -- a table that exists is found
 table_there : (catalogue : List TableShape) (name : List ℕ) → existence_errors catalogue name ≡ [] →
@@ -124,7 +124,7 @@ same_kinds catalogue before (table ∷ tables) none =
 
 -- the columns of a source from a number on
 columns_fit : (scope : List Known) (n number : ℕ) (known : Known) (columns : List Column) →
-    numbered scope n ≡ Some known → number + length columns ≡ length known.columns →
+    item_at scope n ≡ Some known → number + length columns ≡ length known.columns →
     list_all (is_item (scope_kinds scope)) (columns_from n number columns) ≡ true
 columns_fit scope n number known [] is count = refl
 columns_fit scope n number known (column ∷ columns) is count =
@@ -144,7 +144,7 @@ all_fit n (known ∷ scope) whole follows =
     (columns_fit whole n 0 known known.columns (follows_first n known scope whole follows) (omega arith))
     (all_fit (suc n) scope whole (follows_next n known scope whole follows))
 
-source_fit : (scope : List Known) (n : ℕ) (found : Option Known) → numbered scope n ≡ found →
+source_fit : (scope : List Known) (n : ℕ) (found : Option Known) → item_at scope n ≡ found →
     list_all (is_item (scope_kinds scope)) (option_map_or (λ (known : Known). columns_from n 0 known.columns) found []) ≡ true
 source_fit scope n None is = refl
 source_fit scope n (Some known) is = columns_fit scope n 0 known known.columns is (omega arith)
@@ -152,14 +152,14 @@ source_fit scope n (Some known) is = columns_fit scope n 0 known known.columns i
 named_fit : (scope : List Known) (found : Option ℕ) →
     list_all (is_item (scope_kinds scope)) (option_map_or (columns_of_source scope) found []) ≡ true
 named_fit scope None = refl
-named_fit scope (Some n) = source_fit scope n (numbered scope n) refl
+named_fit scope (Some n) = source_fit scope n (item_at scope n) refl
 
 item_fits : (scope : List Known) (given : Item) → is_low_item given ≡ true → item_errors scope given ≡ [] →
     list_all (is_item (scope_kinds scope)) (item_exprs scope given) ≡ true
 item_fits scope item.All low none = all_fit 0 scope scope (follows_all scope)
 item_fits scope (item.AllOf name) low none = named_fit scope (source_named scope name)
 item_fits scope (item.Expr tree name) low none =
-    both (is_item (scope_kinds scope) (resolved scope tree)) true
+    both (is_item (scope_kinds scope) (expr_of_tree scope tree)) true
     (expr_fits (λ kind. true) scope tree low none (kind_exists scope tree none)) refl
 
 items_fit : (scope : List Known) (items : List Item) → list_all is_low_item items ≡ true →
@@ -176,7 +176,7 @@ items_fit scope (given ∷ items) low none =
     (right_nil (item_errors scope given) (flat_map (item_errors scope) items) none))
 
 where_fits : (scope : List Known) (condition : Option Tree) → is_low_condition condition ≡ true →
-    where_errors scope condition ≡ [] → is_where (scope_kinds scope) (option_map (resolved scope) condition) ≡ true
+    where_errors scope condition ≡ [] → is_where (scope_kinds scope) (option_map (expr_of_tree scope) condition) ≡ true
 where_fits scope None low none = refl
 where_fits scope (Some tree) low none =
     expr_fits is_boolean scope tree low
@@ -189,7 +189,7 @@ parts_fit : (catalogue : List TableShape) (select : SelectTree) (scope : List Kn
     scope ≡ scope_of catalogue (tables_in select.from) →
     map source_kinds (sources_of catalogue (tables_in select.from)) ≡ scope_kinds scope →
     (list_all is_low_item select.items && is_low_condition select.condition) ≡ true → part_errors scope select ≡ [] →
-    IsSelect catalogue (selected catalogue select)
+    IsSelect catalogue (select_of_tree catalogue select)
 parts_fit catalogue select scope is kinds low none =
     record {
       sources = sources_fit catalogue (tables_in select.from);
@@ -203,8 +203,8 @@ parts_fit catalogue select scope is kinds low none =
           (left_nil (flat_map (item_errors scope) select.items) (where_errors scope select.condition) none)));
       condition =
           subst (λ (s : List Known). is_where (map source_kinds (sources_of catalogue (tables_in select.from)))
-          (option_map (resolved s) select.condition) ≡ true) is
-          (subst (λ (k : List (List (Option Kind))). is_where k (option_map (resolved scope) select.condition) ≡ true)
+          (option_map (expr_of_tree s) select.condition) ≡ true) is
+          (subst (λ (k : List (List (Option Kind))). is_where k (option_map (expr_of_tree scope) select.condition) ≡ true)
           (sym kinds)
           (where_fits scope select.condition
           (right_holds (list_all is_low_item select.items) (is_low_condition select.condition) low)
@@ -213,7 +213,7 @@ parts_fit catalogue select scope is kinds low none =
 
 pub select_fits : (catalogue : List TableShape) (select : SelectTree) →
     (list_all is_low_item select.items && is_low_condition select.condition) ≡ true →
-    in_order (select_phases catalogue select) ≡ [] → IsSelect catalogue (selected catalogue select)
+    in_order (select_phases catalogue select) ≡ [] → IsSelect catalogue (select_of_tree catalogue select)
 select_fits catalogue select low none =
     parts_fit catalogue select (scope_of catalogue (tables_in select.from)) refl
     (same_kinds catalogue [] (tables_in select.from)

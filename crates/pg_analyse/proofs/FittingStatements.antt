@@ -19,7 +19,7 @@ use Rattle.pg_analyse.specs.Causes.{in_order}
 use Rattle.pg_analyse.specs.Inserts.{insert_phases, inserted_into, tuples_of}
 use Rattle.pg_analyse.specs.Laws.{StatementsFit}
 use Rattle.pg_analyse.proofs.Premises.{is_low, is_low_statement, low_statement}
-use Rattle.pg_analyse.specs.Queries.{select_phases, selected, table_named}
+use Rattle.pg_analyse.specs.Queries.{select_phases, select_of_tree, table_named}
 use Rattle.pg_analyse.proofs.FittingInserts.{insert_fits}
 use Rattle.pg_analyse.proofs.FittingSelects.{found_table, select_fits}
 use Rattle.pg_analyse.proofs.Holding.{err_ok, no_error, the_value}
@@ -82,10 +82,10 @@ built_fits catalogue stmt.Rollback given e low =
     (rollback_fits catalogue)
 built_fits catalogue (stmt.Select select) given e low =
     subst (λ (s : Statement). IsStatement catalogue s)
-    (the_value (in_order (select_phases catalogue select)) (statement.Select (selected catalogue select)) given e)
-    (selecting catalogue (selected catalogue select)
+    (the_value (in_order (select_phases catalogue select)) (statement.Select (select_of_tree catalogue select)) given e)
+    (selecting catalogue (select_of_tree catalogue select)
     (select_fits catalogue select low
-    (no_error (in_order (select_phases catalogue select)) (statement.Select (selected catalogue select)) given e)))
+    (no_error (in_order (select_phases catalogue select)) (statement.Select (select_of_tree catalogue select)) given e)))
 built_fits catalogue (stmt.Insert insert) given e low =
     insert_into catalogue insert given (table_named catalogue insert.table) refl e low
 built_fits catalogue (stmt.Update update) given e low = absurd (err_ok e)

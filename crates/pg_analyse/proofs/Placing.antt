@@ -4,7 +4,7 @@ use Rattle.std.proofs.lemmas.List.Folds.{list_all-append}
 use Rattle.std.specs.List.{list_all, list_any, position_or_len, prefix_len}
 use Rattle.std.specs.Option.{option_and_then, option_map, option_map_or}
 use Rattle.std.specs.Str.{bytes_eq}
-use Rattle.pg_lists.specs.Numbered.{numbered}
+use Rattle.pg_lists.specs.Numbered.{item_at}
 use Rattle.pg_names.specs.Names.{is_among, number_of}
 use Rattle.pg_model.specs.declared.catalogue.Column.{Column}
 use Rattle.pg_model.specs.declared.error.SqlError.{SqlError}
@@ -61,7 +61,7 @@ get_below (x ∷ xs) zero below e = none_some (sym e)
 get_below (x ∷ xs) (suc i) below e = let less : i < length xs = omega arith in get_below xs i less e
 
 -- a column of a source that is known is one of its columns
-pub has_known : (scope : List Known) (source number : ℕ) (known : Known) → numbered scope source ≡ Some known →
+pub has_known : (scope : List Known) (source number : ℕ) (known : Known) → item_at scope source ≡ Some known →
     nat_lt number (length known.columns) ≡ true → has_column (scope_kinds scope) source number ≡ true
 has_known scope source number known is below =
     ap (λ kinds. option_map_or (λ columns. nat_lt number (length columns)) kinds false)
@@ -77,27 +77,27 @@ column_below columns name n is =
 
 -- the sources are those of the whole from the number n on
 abbrev pub Follows : ℕ → List Known → List Known → Type 0
-Follows n scope whole = (i : ℕ) (known : Known) → numbered scope i ≡ Some known → numbered whole (i + n) ≡ Some known
+Follows n scope whole = (i : ℕ) (known : Known) → item_at scope i ≡ Some known → item_at whole (i + n) ≡ Some known
 
 pub follows_all : (whole : List Known) → Follows 0 whole whole
-follows_all whole i known is = let same : i + 0 ≡ i = omega arith in ap (λ (k : ℕ). numbered whole k) same ∙ is
+follows_all whole i known is = let same : i + 0 ≡ i = omega arith in ap (λ (k : ℕ). item_at whole k) same ∙ is
 
 pub follows_first : (n : ℕ) (known : Known) (scope whole : List Known) → Follows n (known ∷ scope) whole →
-    numbered whole n ≡ Some known
+    item_at whole n ≡ Some known
 follows_first n known scope whole follows =
-    let same : n ≡ 0 + n = omega arith in ap (λ (k : ℕ). numbered whole k) same ∙ follows 0 known refl
+    let same : n ≡ 0 + n = omega arith in ap (λ (k : ℕ). item_at whole k) same ∙ follows 0 known refl
 
 pub follows_next : (n : ℕ) (known : Known) (scope whole : List Known) → Follows n (known ∷ scope) whole →
     Follows (suc n) scope whole
 follows_next n known scope whole follows i other is =
     let same : i + suc n ≡ suc i + n = omega arith in
-    ap (λ (k : ℕ). numbered whole k) same ∙ follows (suc i) other is
+    ap (λ (k : ℕ). item_at whole k) same ∙ follows (suc i) other is
 
 abbrev is_place : List Known → ℕ × ℕ → Bool
 is_place whole place = has_column (scope_kinds whole) place.0 place.1
 
 place_found : (whole : List Known) (n : ℕ) (known : Known) (name : List ℕ) (found : Option ℕ) →
-    number_of (column_names known.columns) name ≡ found → numbered whole n ≡ Some known →
+    number_of (column_names known.columns) name ≡ found → item_at whole n ≡ Some known →
     list_all (is_place whole) (option_map_or (λ column. (n, column) ∷ []) found []) ≡ true
 place_found whole n known name None found is = refl
 place_found whole n known name (Some number) found is =
@@ -129,14 +129,14 @@ name_fits name scope none =
     place_fits name (places scope name) scope (all_places name 0 scope scope (follows_all scope)) none
 
 number_fits : (scope : List Known) (source : ℕ) (known : Known) (name : List ℕ) (found : Option ℕ) →
-    numbered scope source ≡ Some known → number_of (column_names known.columns) name ≡ found →
+    item_at scope source ≡ Some known → number_of (column_names known.columns) name ≡ found →
     column_errors name found ≡ [] →
     has_columns (scope_kinds scope) (place_or_first (option_map_or (λ c. Some (source, c)) found None)) ≡ true
 number_fits scope source known name None is found none = absurd (cons_nil none)
 number_fits scope source known name (Some number) is found none =
     has_known scope source number known is (column_below known.columns name number found)
 
-source_fits : (scope : List Known) (source : ℕ) (name : List ℕ) (found : Option Known) → numbered scope source ≡ found →
+source_fits : (scope : List Known) (source : ℕ) (name : List ℕ) (found : Option Known) → item_at scope source ≡ found →
     column_errors name (option_and_then (λ (known : Known). number_of (column_names known.columns) name) found) ≡ [] →
     has_columns (scope_kinds scope) (place_or_first (option_map_or (λ c. Some (source, c))
     (option_and_then (λ (known : Known). number_of (column_names known.columns) name) found) None)) ≡ true
@@ -149,7 +149,7 @@ qualified_found : (scope : List Known) (source name : List ℕ) (found : Option 
     has_columns (scope_kinds scope)
     (place_or_first (option_and_then (λ s. option_map_or (λ c. Some (s, c)) (column_in scope s name) None) found)) ≡ true
 qualified_found scope source name None none = absurd (cons_nil none)
-qualified_found scope source name (Some s) none = source_fits scope s name (numbered scope s) refl none
+qualified_found scope source name (Some s) none = source_fits scope s name (item_at scope s) refl none
 
 -- and so is a name behind that of its source
 pub qualified_fits : (scope : List Known) (source name : List ℕ) →

@@ -14,7 +14,7 @@ use Rattle.pg_analyse.specs.Built.{is_empty}
 use Rattle.pg_exprs.specs.Tree.{Tree as Resolved}
 use Rattle.pg_analyse.specs.Causes.{Stops, first_fault}
 use Rattle.pg_analyse.specs.Inserts.{fits_at, store_errors, value_errors}
-use Rattle.pg_analyse.specs.Resolved.{expr_errors, kind_errors, kind_in, resolved}
+use Rattle.pg_analyse.specs.Resolved.{expr_errors, kind_errors, kind_in, expr_of_tree}
 use Rattle.pg_analyse.proofs.Stopping.{stops_before, stops_behind}
 
 cons_nil : {X : Type 0} {x : X} {xs : List X} → x ∷ xs ≡ [] → ⊥
@@ -140,14 +140,14 @@ step_values columns numbers at next tree rest kind fits fit after is fitting bot
 abbrev pub Resolving : List Column → List ℕ → List Tree → ℕ → ℕ → List Resolved → Bool → Type 0
 Resolving columns numbers row at index exprs fits =
     (at ≡ index)
-    × (exprs ++ map (resolved []) (drop index row) ≡ map (resolved []) row)
+    × (exprs ++ map (expr_of_tree []) (drop index row) ≡ map (expr_of_tree []) row)
     × (flat_map (expr_errors []) (drop index row) ≡ flat_map (expr_errors []) row)
     × ((fits && is_empty (store_errors columns (drop at numbers) (drop index row)))
     ≡ is_empty (store_errors columns numbers row))
 
 pub values_more : (columns : List Column) (numbers : List ℕ) (row : List Tree) (at index : ℕ) (tree : Tree)
     (exprs new : List Resolved) (expr : Resolved) (kind : Option Kind) (fits fit after : Bool) → index < length row →
-    tree ≡ slice_index_or row index tree → Resolving columns numbers row at index exprs fits → expr ≡ resolved [] tree →
+    tree ≡ slice_index_or row index tree → Resolving columns numbers row at index exprs fits → expr ≡ expr_of_tree [] tree →
     kind_in [] tree ≡ Ok kind → expr_errors [] tree ≡ [] → fit ≡ fits_at columns numbers at kind →
     new ≡ exprs ++ expr ∷ [] → after ≡ (fits && fit) → Resolving columns numbers row (at + 1) (index + 1) new after
 values_more columns numbers row at index tree exprs new expr kind fits fit after below here so_far expr_is kind_is none
@@ -155,8 +155,8 @@ values_more columns numbers row at index tree exprs new expr kind fits fit after
     let rest : List Tree = drop (index + 1) row in
     let split : drop index row ≡ tree ∷ rest = drop_more row index tree below ∙ ap (λ t. t ∷ rest) (sym here) in (
       ap (λ n. n + 1) so_far.0,
-      ap (λ es. es ++ map (resolved []) rest) more ∙ append_assoc exprs (expr ∷ []) (map (resolved []) rest)
-          ∙ ap (λ e. exprs ++ e ∷ map (resolved []) rest) expr_is ∙ ap (λ ts. exprs ++ map (resolved []) ts) (sym split)
+      ap (λ es. es ++ map (expr_of_tree []) rest) more ∙ append_assoc exprs (expr ∷ []) (map (expr_of_tree []) rest)
+          ∙ ap (λ e. exprs ++ e ∷ map (expr_of_tree []) rest) expr_is ∙ ap (λ ts. exprs ++ map (expr_of_tree []) ts) (sym split)
           ∙ so_far.1,
       ap (λ es. es ++ flat_map (expr_errors []) rest) (sym none) ∙ ap (flat_map (expr_errors [])) (sym split) ∙ so_far.2,
       step_values columns numbers at (at + 1) tree rest kind fits fit after kind_is fitting both refl

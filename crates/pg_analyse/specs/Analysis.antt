@@ -14,7 +14,7 @@ use Rattle.pg_analyse.specs.Built.{is_built_declaration, is_built_statement}
 use Rattle.pg_analyse.specs.Causes.{by_phases}
 use Rattle.pg_analyse.specs.Tables.{declared_table, table_phases}
 use Rattle.pg_analyse.specs.Inserts.{insert_phases, inserted_into}
-use Rattle.pg_analyse.specs.Queries.{select_phases, selected, table_named}
+use Rattle.pg_analyse.specs.Queries.{select_phases, select_of_tree, table_named}
 
 -- an INSERT into the table that was found under its name, if there is one
 abbrev pub insert_analysis : InsertTree → Option NamedTable → Result Statement AnalyseFault
@@ -32,7 +32,7 @@ built_analysis catalogue stmt.Begin = Ok statement.Begin
 built_analysis catalogue stmt.Commit = Ok statement.Commit
 built_analysis catalogue stmt.Rollback = Ok statement.Rollback
 built_analysis catalogue (stmt.Select select) =
-    by_phases (select_phases catalogue select) (statement.Select (selected catalogue select))
+    by_phases (select_phases catalogue select) (statement.Select (select_of_tree catalogue select))
 built_analysis catalogue (stmt.Insert insert) = analysis_of_insert catalogue insert
 built_analysis catalogue (stmt.Update update) = Err fault.Later
 built_analysis catalogue (stmt.Delete delete) = Err fault.Later

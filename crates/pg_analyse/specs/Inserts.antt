@@ -1,7 +1,7 @@
 -- INSERT with VALUES: its columns, its rows, and its errors by phases.
 use Rattle.std.specs.Prelude.{ℕ, suc, Bool, true, List, [], ◌∷◌, ◌++◌, ◌==◌, filter_map, flat_map, length, map, nat_le, Option, None, if◌then◌else◌}
 use Rattle.std.specs.Option.{option_map_or}
-use Rattle.pg_lists.specs.Numbered.{numbered}
+use Rattle.pg_lists.specs.Numbered.{item_at}
 use Rattle.pg_values.specs.declared.value.Kind.{Kind}
 use Rattle.pg_exprs.specs.Tree.{Tree as Resolved}
 use Rattle.pg_names.specs.Names.{is_among, number_of}
@@ -16,7 +16,7 @@ use Rattle.pg_model.specs.declared.statement.Insert.{Insert}
 use Rattle.pg_model.specs.declared.statement.NamedTable.{NamedTable}
 use Rattle.pg_model.specs.Kinds.{may_be_stored}
 use Rattle.pg_model.specs.Statements.{column_kind}
-use Rattle.pg_analyse.specs.Resolved.{expr_errors, kind_errors, kind_in, resolved}
+use Rattle.pg_analyse.specs.Resolved.{expr_errors, kind_errors, kind_in, expr_of_tree}
 use Rattle.pg_analyse.specs.Scope.{again_errors, column_names}
 
 -- the rows that VALUES lists
@@ -69,7 +69,7 @@ store_errors columns (number ∷ numbers) (tree ∷ trees) =
 -- a value of that kind may be stored in the column at that place of the list
 abbrev pub fits_at : List Column → List ℕ → ℕ → Option Kind → Bool
 fits_at columns numbers place from =
-    option_map_or (λ number. option_map_or (may_be_stored from) (column_kind columns number) true) (numbered numbers place)
+    option_map_or (λ number. option_map_or (may_be_stored from) (column_kind columns number) true) (item_at numbers place)
     true
 
 -- the expressions, which know no columns; then the stored kinds
@@ -90,5 +90,5 @@ inserted_into insert named =
     record {
       target = named;
       columns = target_columns named.shape.columns insert.columns;
-      rows = map (map (resolved [])) (tuples_of insert.rows);
+      rows = map (map (expr_of_tree [])) (tuples_of insert.rows);
     }

@@ -1,7 +1,7 @@
 -- SELECT: its sources, what `*` means, and its errors by phases.
 use Rattle.std.specs.Prelude.{ℕ, suc, List, [], ◌∷◌, ◌++◌, filter_map, flat_map, length, map, Option, Some, None, if◌then◌else◌, unwrap_or}
 use Rattle.std.specs.Option.{option_map, option_map_or, option_and_then}
-use Rattle.pg_lists.specs.Numbered.{numbered}
+use Rattle.pg_lists.specs.Numbered.{item_at}
 use Rattle.pg_exprs.specs.Tree.{Tree as Resolved, column as resolved_column}
 use Rattle.pg_names.specs.Names.{is_among, number_of}
 use Rattle.pg_parse_expr.specs.Tree.{Tree}
@@ -20,7 +20,7 @@ use Rattle.pg_model.specs.declared.statement.NamedTable.{NamedTable}
 use Rattle.pg_model.specs.declared.statement.Select.{Select}
 use Rattle.pg_model.specs.declared.statement.Source.{Source}
 use Rattle.pg_model.specs.declared.statement.Source.TheVariants as source
-use Rattle.pg_analyse.specs.Resolved.{condition_errors, expr_errors, resolved}
+use Rattle.pg_analyse.specs.Resolved.{condition_errors, expr_errors, expr_of_tree}
 use Rattle.pg_analyse.specs.declared.scope.Known.{Known}
 use Rattle.pg_analyse.specs.Scope.{source_names, source_named}
 
@@ -31,7 +31,7 @@ table_names catalogue = map (λ shape. shape.name) catalogue
 -- the table of that name with its number, if there is one
 abbrev pub table_named : List TableShape → List ℕ → Option NamedTable
 table_named catalogue name =
-    option_and_then (λ number. option_map (λ shape. record { table = number; shape = shape }) (numbered catalogue number))
+    option_and_then (λ number. option_map (λ shape. record { table = number; shape = shape }) (item_at catalogue number))
     (number_of (table_names catalogue) name)
 
 -- the table that a source is
@@ -96,13 +96,13 @@ all_columns_from source (known ∷ scope) = columns_from source 0 known.columns 
 
 -- the columns of the source of that number
 abbrev pub columns_of_source : List Known → ℕ → List Resolved
-columns_of_source scope number = option_map_or (λ known. columns_from number 0 known.columns) (numbered scope number) []
+columns_of_source scope number = option_map_or (λ known. columns_from number 0 known.columns) (item_at scope number) []
 
 -- what an item of a SELECT list means: `*` the columns of all sources, and `name.*` those of one
 abbrev pub item_exprs : List Known → Item → List Resolved
 item_exprs scope item.All = all_columns_from 0 scope
 item_exprs scope (item.AllOf name) = option_map_or (columns_of_source scope) (source_named scope name) []
-item_exprs scope (item.Expr tree name) = resolved scope tree ∷ []
+item_exprs scope (item.Expr tree name) = expr_of_tree scope tree ∷ []
 
 -- the errors of an item of a SELECT list
 abbrev pub item_errors : List Known → Item → List SqlError
@@ -127,10 +127,10 @@ select_phases catalogue select =
     ∷ []
 
 -- the statement that a SELECT without errors is
-abbrev pub selected : List TableShape → SelectTree → Select
-selected catalogue select =
+abbrev pub select_of_tree : List TableShape → SelectTree → Select
+select_of_tree catalogue select =
     record {
       items = flat_map (item_exprs (scope_of catalogue (tables_in select.from))) select.items;
       sources = sources_of catalogue (tables_in select.from);
-      condition = option_map (resolved (scope_of catalogue (tables_in select.from))) select.condition;
+      condition = option_map (expr_of_tree (scope_of catalogue (tables_in select.from))) select.condition;
     }

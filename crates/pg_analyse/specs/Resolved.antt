@@ -1,7 +1,7 @@
 -- Expressions with their names resolved, and the errors of an expression, depth first and from left to right.
 use Rattle.std.specs.Prelude.{ℕ, List, [], ◌∷◌, ◌++◌, Option, Some, None, Result, Ok, Err, Bool, if◌then◌else◌}
 use Rattle.std.specs.Option.{option_map_or, option_and_then}
-use Rattle.pg_lists.specs.Numbered.{numbered}
+use Rattle.pg_lists.specs.Numbered.{item_at}
 use Rattle.pg_values.specs.declared.value.Kind.{Kind}
 use Rattle.pg_exprs.specs.declared.kinds.KindFault.{KindFault}
 use Rattle.pg_exprs.specs.Kinds.{is_boolean, kind_of}
@@ -22,7 +22,7 @@ first_place (place ∷ places) = resolved_column place.0 place.1
 -- the number of a column in the source of that number
 abbrev pub column_in : List Known → ℕ → List ℕ → Option ℕ
 column_in scope source name =
-    option_and_then (λ known. number_of (column_names known.columns) name) (numbered scope source)
+    option_and_then (λ known. number_of (column_names known.columns) name) (item_at scope source)
 
 -- where the column of a source, both by their names, stands
 abbrev pub place_of : List Known → List ℕ → List ℕ → Option (ℕ × ℕ)
@@ -39,13 +39,13 @@ abbrev pub column_of_kind : List Known → List ℕ → List ℕ → Result (Opt
 column_of_kind scope source name = kind_of (place_or_first (place_of scope source name)) (scope_kinds scope)
 
 -- the expression with the columns in place of their names
-abbrev pub resolved : List Known → Tree → Resolved
-resolved scope (literal value) = resolved_literal value
-resolved scope (column name) = first_place (places scope name)
-resolved scope (column_of source name) = place_or_first (place_of scope source name)
-resolved scope action = resolved_action
-resolved scope (unary op a) = resolved_unary op (resolved scope a)
-resolved scope (binary op a b) = resolved_binary op (resolved scope a) (resolved scope b)
+abbrev pub expr_of_tree : List Known → Tree → Resolved
+expr_of_tree scope (literal value) = resolved_literal value
+expr_of_tree scope (column name) = first_place (places scope name)
+expr_of_tree scope (column_of source name) = place_or_first (place_of scope source name)
+expr_of_tree scope action = resolved_action
+expr_of_tree scope (unary op a) = resolved_unary op (expr_of_tree scope a)
+expr_of_tree scope (binary op a b) = resolved_binary op (expr_of_tree scope a) (expr_of_tree scope b)
 
 -- a bare name means a column of exactly one source
 abbrev pub name_errors : List ℕ → List (ℕ × ℕ) → List SqlError
@@ -74,7 +74,7 @@ operator_errors (Err fault) = error.NoOperator ∷ []
 
 -- the kind of an expression over these sources
 abbrev pub kind_in : List Known → Tree → Result (Option Kind) KindFault
-kind_in scope tree = kind_of (resolved scope tree) (scope_kinds scope)
+kind_in scope tree = kind_of (expr_of_tree scope tree) (scope_kinds scope)
 
 -- the errors of an expression: those of its operands come before its own
 abbrev pub expr_errors : List Known → Tree → List SqlError

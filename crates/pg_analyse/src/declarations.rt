@@ -24,8 +24,8 @@ const MAX_TABLES: usize = 64;
 /// The most columns of a table.
 const MAX_COLUMNS: usize = 64;
 
-/// Puts the table that a CREATE TABLE declares behind those of the catalogue, or answers its first error and leaves the
-/// catalogue as it was.
+/// Puts the table that a CREATE TABLE declares behind those of the catalogue, or answers its first
+/// error and leaves the catalogue as it was.
 #[tactic(auto, using(crate::proofs::Phases::no_errors, crate::proofs::Phases::an_error))]
 pub fn declare(
     alloc: Global,

@@ -2,29 +2,28 @@ ghost use Rattle.std.specs.Prelude.{◌≡◌, [], IfErr, IfOk, OnOk, Ok};
 ghost use Rattle.pg_exprs.specs.Kinds.{kind_of};
 ghost use Rattle.pg_exprs.specs.Tree.{column as resolved_column};
 ghost use Rattle.pg_analyse.specs.Causes.{Stops};
-ghost use Rattle.pg_analyse.specs.Resolved.{column_in as column_number, column_of_errors, column_of_kind, condition_errors, expr_errors, first_place, kind_in, name_errors, place_of, place_or_first, resolved};
+ghost use Rattle.pg_analyse.specs.Resolved.{column_in as column_number, column_of_errors, column_of_kind, condition_errors, expr_errors, first_place, kind_in, name_errors, place_of, place_or_first, expr_of_tree};
 ghost use Rattle.pg_analyse.specs.Scope.{places, scope_kinds};
 
 use crate::AnalyseFault;
-use crate::kinds::{binary_kind, takes_boolean, unary_kind};
 use crate::name::{name_of, number};
 use crate::scope::{Found, Scope, find_column, kind_at};
-use pg_exprs::Expr;
+use pg_exprs::{Expr, binary_kind, takes_boolean, unary_kind};
 use pg_lexer::NameText;
 use pg_model::SqlError;
 use pg_parse_expr::{ExprTree, Node};
 use pg_values::{Kind, copy_value};
 use std::alloc::Global;
 
-/// The expression with columns in place of their names, and its kind, which is none for a bare NULL; or its first
-/// error.
+/// The expression with columns in place of their names, and its kind, which is none for a bare
+/// NULL; or its first error.
 #[tactic(auto, using(crate::proofs::Stopping::stops_before, crate::proofs::Stopping::stops_behind))]
 pub(crate) fn resolve(
     alloc: Global,
     scope: &Scope,
     tree: &ExprTree,
 ) -> Result<(Expr, Option<Kind>), AnalyseFault>
-    ensures expr { IfOk result (λ given. given.0 ≡ resolved scope.now tree.now) }
+    ensures expr { IfOk result (λ given. given.0 ≡ expr_of_tree scope.now tree.now) }
     ensures kind { IfOk result (λ given. kind_in scope.now tree.now ≡ Ok given.1) }
     ensures ok { OnOk result (expr_errors scope.now tree.now ≡ []) }
     ensures err { IfErr result (λ fault. Stops (expr_errors scope.now tree.now) fault) }
@@ -61,7 +60,7 @@ pub(crate) fn resolve_condition(
     scope: &Scope,
     tree: &ExprTree,
 ) -> Result<Expr, AnalyseFault>
-    ensures expr { IfOk result (λ expr. expr ≡ resolved scope.now tree.now) }
+    ensures expr { IfOk result (λ expr. expr ≡ expr_of_tree scope.now tree.now) }
     ensures ok { OnOk result (condition_errors scope.now tree.now ≡ []) }
     ensures err { IfErr result (λ fault. Stops (condition_errors scope.now tree.now) fault) }
 {

@@ -6,7 +6,7 @@ ghost use Rattle.pg_analyse.specs.Analysis.{analysis_of_insert};
 ghost use Rattle.pg_analyse.specs.Built.{is_empty};
 ghost use Rattle.pg_analyse.specs.Causes.{Stops, in_order};
 ghost use Rattle.pg_analyse.specs.Inserts.{count_errors, fits_at, insert_phases, inserted_into, is_count as counts, listed_errors, listing_errors, numbers_from, row_phases, store_errors, target_columns as targets, tuples_of as tuples_in};
-ghost use Rattle.pg_analyse.specs.Resolved.{expr_errors, kind_in, resolved};
+ghost use Rattle.pg_analyse.specs.Resolved.{expr_errors, kind_in, expr_of_tree};
 ghost use Rattle.pg_analyse.specs.Scope.{column_names};
 
 use crate::AnalyseFault;
@@ -189,7 +189,7 @@ fn resolve_rows(
     numbers: &[u32],
     tuples: &[Tuple],
 ) -> Result<ProposedRows, AnalyseFault>
-    ensures rows { IfOk result (λ rows. rows ≡ map (map (resolved [])) tuples.now) }
+    ensures rows { IfOk result (λ rows. rows ≡ map (map (expr_of_tree [])) tuples.now) }
     ensures exprs { OnOk result (flat_map (flat_map (expr_errors [])) tuples.now ≡ []) }
     ensures stored { OnOk result (flat_map (store_errors columns.now numbers.now) tuples.now ≡ []) }
     ensures err { IfErr result (λ fault.
@@ -208,7 +208,8 @@ fn resolve_rows(
     Ok(rows)
 }
 
-/// A row with its names resolved, and whether its values may be stored; or the first error of its expressions.
+/// A row with its names resolved, and whether its values may be stored; or the first error of its
+/// expressions.
 #[tactic(auto, using(crate::proofs::Stopping::stops_before, crate::proofs::Stopping::stops_behind, crate::proofs::Storing::step_values))]
 fn resolve_row(
     alloc: Global,
@@ -216,7 +217,7 @@ fn resolve_row(
     numbers: &[u32],
     row: &[ExprTree],
 ) -> Result<(Exprs, bool), AnalyseFault>
-    ensures exprs { IfOk result (λ given. given.0 ≡ map (resolved []) row.now) }
+    ensures exprs { IfOk result (λ given. given.0 ≡ map (expr_of_tree []) row.now) }
     ensures fits { IfOk result (λ given.
         given.1 ≡ is_empty (store_errors columns.now numbers.now row.now)) }
     ensures ok { OnOk result (flat_map (expr_errors []) row.now ≡ []) }
@@ -237,7 +238,7 @@ fn resolve_row(
 
 /// A value of a row, which names no column, and its kind; or its first error.
 fn resolve_value(alloc: Global, tree: &ExprTree) -> Result<(Expr, Option<Kind>), AnalyseFault>
-    ensures expr { IfOk result (λ given. given.0 ≡ resolved [] tree.now) }
+    ensures expr { IfOk result (λ given. given.0 ≡ expr_of_tree [] tree.now) }
     ensures kind { IfOk result (λ given. kind_in [] tree.now ≡ Ok given.1) }
     ensures ok { OnOk result (expr_errors [] tree.now ≡ []) }
     ensures err { IfErr result (λ fault. Stops (expr_errors [] tree.now) fault) }

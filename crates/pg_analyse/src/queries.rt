@@ -3,8 +3,8 @@ ghost use Rattle.std.specs.Option.{option_map};
 ghost use Rattle.pg_analyse.specs.declared.fault.AnalyseFault.TheVariants.{Memory};
 ghost use Rattle.pg_parse_stmt.specs.declared.tree.Item.TheVariants.{AllOf};
 ghost use Rattle.pg_analyse.specs.Causes.{Stops, in_order};
-ghost use Rattle.pg_analyse.specs.Queries.{all_columns_from, columns_from, item_errors, item_exprs, known_as, known_name as known, part_errors, reference_errors, relation_errors, scope_of, select_phases, selected, sources_of, tables_in, where_errors};
-ghost use Rattle.pg_analyse.specs.Resolved.{resolved};
+ghost use Rattle.pg_analyse.specs.Queries.{all_columns_from, columns_from, item_errors, item_exprs, known_as, known_name as known, part_errors, reference_errors, relation_errors, scope_of, select_phases, select_of_tree, sources_of, tables_in, where_errors};
+ghost use Rattle.pg_analyse.specs.Resolved.{expr_of_tree};
 ghost use Rattle.pg_analyse.specs.Scope.{source_names};
 
 use crate::AnalyseFault;
@@ -30,7 +30,7 @@ pub(crate) fn analyse_select(
     catalogue: &Catalogue,
     select: &SelectTree,
 ) -> Result<Select, AnalyseFault>
-    ensures select { IfOk result (λ given. given ≡ selected catalogue.now select.now) }
+    ensures select { IfOk result (λ given. given ≡ select_of_tree catalogue.now select.now) }
     ensures ok { OnOk result (in_order (select_phases catalogue.now select.now) ≡ []) }
     ensures err { IfErr result (λ fault.
         Stops (in_order (select_phases catalogue.now select.now)) fault) }
@@ -55,7 +55,7 @@ fn resolve_parts(
     ensures items { IfOk result (λ given.
         given.0 ≡ flat_map (item_exprs scope.now) select.now.items) }
     ensures condition { IfOk result (λ given.
-        given.1 ≡ option_map (resolved scope.now) select.now.condition) }
+        given.1 ≡ option_map (expr_of_tree scope.now) select.now.condition) }
     ensures ok { OnOk result (part_errors scope.now select.now ≡ []) }
     ensures err { IfErr result (λ fault. Stops (part_errors scope.now select.now) fault) }
 {
@@ -219,7 +219,7 @@ fn resolve_where(
     condition: &Option<ExprTree>,
 ) -> Result<Option<Expr>, AnalyseFault>
     ensures condition { IfOk result (λ given.
-        given ≡ option_map (resolved scope.now) condition.now) }
+        given ≡ option_map (expr_of_tree scope.now) condition.now) }
     ensures ok { OnOk result (where_errors scope.now condition.now ≡ []) }
     ensures err { IfErr result (λ fault. Stops (where_errors scope.now condition.now) fault) }
 {

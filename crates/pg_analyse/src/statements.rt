@@ -10,7 +10,8 @@ use pg_model::{Catalogue, Statement};
 use pg_parse_stmt::StmtTree;
 use std::alloc::Global;
 
-/// The statement with its names resolved over the catalogue, or its first error. The version is the script's.
+/// The statement with its names resolved over the catalogue, or its first error. The version is the
+/// script's.
 #[tactic(auto, using(crate::proofs::Phases::no_errors, crate::proofs::Phases::an_error))]
 pub fn analyse(
     alloc: Global,

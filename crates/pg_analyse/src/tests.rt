@@ -9,8 +9,8 @@ use std::alloc::{AllocError, Global};
 /// The most bytes of a line.
 const MAX_LINE: usize = 1048576;
 
-/// Statements over the tables `t (a integer, b text, c boolean, d bigint)` and `u (a integer)`, each with what analysis
-/// answers.
+/// Statements over the tables `t (a integer, b text, c boolean, d bigint)` and `u (a integer)`,
+/// each with what analysis answers.
 const STATEMENTS: &str = "begin => fits
 commit => fits
 rollback => fits

@@ -1,7 +1,7 @@
 -- Queues when one line more is taken, and the session that is ready by the queues.
 use Rattle.std.proofs.Common.{◌≡◌, ◌≢◌, ℕ, zero, suc, ◌<◌, ◌≤◌, ◌+◌, ◌&&◌, ◌==◌, Bool, true, false, cond, List, [], ◌∷◌, length, take, filter, Option, Some, None, slice_get, slice_set, refl, subst, arith, ap, sym, ◌∙◌}
 use Rattle.std.specs.Prelude.{option_map}
-use Rattle.pg_lists.specs.Numbered.{changed}
+use Rattle.pg_lists.specs.Numbered.{with_changed_item}
 use Rattle.std.proofs.lemmas.List.{length-set}
 use Rattle.std.proofs.lemmas.List.Filters.{length-filter_more}
 use Rattle.std.proofs.lemmas.Option.{get_or_from_slice_get, slice_get_within}
@@ -105,20 +105,20 @@ queues_kept script taken queues line are is none =
 -- the queues when the next line is taken
 pub queues_next : (script : Script) (taken : ℕ) (queues : List Queue) (session : ℕ) → AreQueues script taken queues →
     option_map (λ line. line.session) (slice_get script.lines taken) ≡ Some session →
-    AreQueues script (taken + 1) (changed queued_more queues session)
+    AreQueues script (taken + 1) (with_changed_item queued_more queues session)
 queues_next script taken queues session are is = at (slice_get script.lines taken) refl is
   where
     at : (line : Option Line) → slice_get script.lines taken ≡ line →
         option_map (λ line. line.session) line ≡ Some session →
-        AreQueues script (taken + 1) (changed queued_more queues session)
+        AreQueues script (taken + 1) (with_changed_item queued_more queues session)
     at None there same = absurd (let e : None ≡ Some session = same in cc)
     at (Some line) there same =
         let own : line.session ≡ session = cc in
-        subst (λ s. AreQueues script (taken + 1) (changed queued_more queues s)) own (by_queue line there (slice_get queues line.session) refl)
+        subst (λ s. AreQueues script (taken + 1) (with_changed_item queued_more queues s)) own (by_queue line there (slice_get queues line.session) refl)
       where
         by_queue : (line : Line) → slice_get script.lines taken ≡ Some line →
             (queue : Option Queue) → slice_get queues line.session ≡ queue →
-            AreQueues script (taken + 1) (changed queued_more queues line.session)
+            AreQueues script (taken + 1) (with_changed_item queued_more queues line.session)
         by_queue line there None here = rw here (queues_kept script taken queues line are there here)
         by_queue line there (Some queue) here = rw here (queues_taken script taken queues line queue are there here)
 

@@ -5,7 +5,7 @@ use Rattle.pg_first_path.specs.declared.script.Line.{Line}
 use Rattle.pg_first_path.specs.declared.script.Script.{Script}
 use Rattle.pg_first_path.specs.declared.world.SessionView.{SessionView}
 use Rattle.pg_first_path.specs.declared.world.World.{World}
-use Rattle.pg_lists.specs.Numbered.{numbered}
+use Rattle.pg_lists.specs.Numbered.{item_at}
 use Rattle.pg_first_path.specs.Lines.{lines_of}
 use Rattle.pg_first_path.specs.Stepped.{continuing, is_idle, lowest, or_else}
 use Rattle.pg_board.specs.declared.queues.Queue.{Queue}
@@ -29,11 +29,11 @@ queue_of script taken session =
 -- each session of the script has its queue
 pub record AreQueues (script : Script) (taken : ℕ) (queues : List Queue) : Type 0 where
   pub sessions : length queues ≡ length script.sessions
-  pub each : (session : ℕ) → session < length queues → numbered queues session ≡ Some (queue_of script taken session)
+  pub each : (session : ℕ) → session < length queues → item_at queues session ≡ Some (queue_of script taken session)
 
 -- more lines of the session were taken than it has answered
 abbrev pub has_taken : List Queue → ℕ → SessionView → Bool
-has_taken queues session x = nat_lt x.answered (option_map_or (λ queue. queue.taken) (numbered queues session) 0)
+has_taken queues session x = nat_lt x.answered (option_map_or (λ queue. queue.taken) (item_at queues session) 0)
 
 -- the session that moves next without another line taken, as the queues show it
 abbrev pub ready_by : List Queue → World → Option ℕ → Option ℕ

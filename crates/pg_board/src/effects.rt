@@ -2,7 +2,7 @@ ghost use Rattle.std.specs.Prelude.{◌≡◌, ◌<◌, ◌-◌, ◌^◌, IfOk, 
 ghost use Rattle.std.specs.Option.{option_copied};
 ghost use Rattle.pg_board.specs.Queues.{numbers_of};
 ghost use Rattle.pg_board.specs.Room.{HasRoom, HasRoomIn};
-ghost use Rattle.pg_lists.specs.Numbered.{changed_from_one, numbered};
+ghost use Rattle.pg_lists.specs.Numbered.{with_changed_nth_item, item_at};
 ghost use Rattle.pg_first_path.specs.Worlds.{session_of};
 ghost use Rattle.pg_first_path.specs.Effect.{act_effect, at_session, closed, committed, effect, found, inserted, placed, placed_values, proposed, replied, snapped, settled, waiting_values, with_running};
 
@@ -187,7 +187,7 @@ fn settle(alloc: Global, x: &mut SessionView) -> Values
 /// The row of a table gets these versions.
 #[tactic(auto, using(pg_lists::proofs::Lists::slice_set_past))]
 fn store(view: &mut TableView, row: u64, versions: Vec<Version>)
-    ensures { view.new ≡ record { rows = changed_from_one (λ old. record { versions = versions.items }) view.old.rows row } }
+    ensures { view.new ≡ record { rows = with_changed_nth_item (λ old. record { versions = versions.items }) view.old.rows row } }
 {
     let Some(before) = row.checked_sub(1) else {
         return;
@@ -265,7 +265,7 @@ pub fn perform_next(
     act: &EntryAct,
 ) -> Result<(), AllocError>
     requires session { session < length world.old.sessions }
-    requires queue { IfSome (numbered queues.now session) (λ queue. queue.numbers ≡ numbers_of session 0 script.now.lines) }
+    requires queue { IfSome (item_at queues.now session) (λ queue. queue.numbers ≡ numbers_of session 0 script.now.lines) }
     requires there { session < length queues.now }
     requires room { HasRoom world.old act.now }
     requires room_in { (x : _) → session_of world.old session ≡ Some x → HasRoomIn x act.now }

@@ -1,5 +1,5 @@
 ghost use Rattle.std.specs.Prelude.{◌≡◌, ◌<◌, ◌+◌, ◌-◌, ◌^◌, IfOk, IfSome, Some, length, option_map};
-ghost use Rattle.pg_lists.specs.Numbered.{changed, numbered};
+ghost use Rattle.pg_lists.specs.Numbered.{with_changed_item, item_at};
 ghost use Rattle.pg_first_path.specs.Worlds.{session_of};
 ghost use Rattle.std.specs.Option.{option_copied};
 ghost use Rattle.pg_first_path.specs.Lines.{line_at};
@@ -69,7 +69,7 @@ pub fn line_in<'a>(
     world: &World,
     session: u32,
 ) -> Option<&'a Line>
-    requires queue { IfSome (numbered queues.now session) (λ queue. queue.numbers ≡ numbers_of session 0 script.now.lines) }
+    requires queue { IfSome (item_at queues.now session) (λ queue. queue.numbers ≡ numbers_of session 0 script.now.lines) }
     requires there { session < length queues.now }
     ensures { (x : _) → session_of world.now session ≡ Some x → option_copied result ≡ line_at script.now session x }
 {
@@ -81,15 +81,15 @@ pub fn line_in<'a>(
 /// The session that the line of that number is given to.
 pub fn session_at(script: &Script, number: usize) -> u32
     requires { number < length script.now.lines }
-    ensures { option_map (λ line. line.session) (numbered script.now.lines number) ≡ Some result }
+    ensures { option_map (λ line. line.session) (item_at script.now.lines number) ≡ Some result }
 {
     script.lines.as_slice()[number].session
 }
 
 /// One line more of the session was taken.
 pub fn enqueue(queues: &mut Items<Queue>, session: u32)
-    requires { (queue : _) → numbered queues.old session ≡ Some queue → queue.taken < 2 ^ 64 - 1 }
-    ensures { queues.new ≡ changed queued_more queues.old session }
+    requires { (queue : _) → item_at queues.old session ≡ Some queue → queue.taken < 2 ^ 64 - 1 }
+    ensures { queues.new ≡ with_changed_item queued_more queues.old session }
 {
     if let Some(queue) = queues.get_mut(session as usize) {
         queue.taken += 1;

@@ -65,11 +65,6 @@ module _ {S E : Type 0} (next : S → Option E) (after : S → E → S) where
       let rest : es ≡ fs = run_is_one (after w f) es fs (subst (λ x. IsRunOf next after (after w x) es) d a.1) b.1 in
       cc
 
-  -- the number of entries taken is the length of their list
-  pub takes_length : (w : S) (es : List E) → IsRunOf next after w es → Takes next after (length es) w
-  takes_length w [] r = r
-  takes_length w (e ∷ es) r = (e, r.0, takes_length (after w e) es r.1)
-
   pub run_of_takes : (n : ℕ) (w : S) → Takes next after n w → (es : List E) × IsRunOf next after w es
   run_of_takes zero w t = ([], t)
   run_of_takes (suc n) w t = let r = run_of_takes n (after w t.0) t.2 in (t.0 ∷ r.0, (t.1, r.1))
@@ -144,40 +139,3 @@ module _ {S E : Type 0} (next : S → Option E) (after : S → E → S) (weight 
   pub steps_fall : (w v : S) (e : E) → v ≡ after w e → next w ≡ Some e → IsLess (weight (after w e)) (weight w) →
       steps_left v < steps_left w
   steps_fall w v e s n h = let t = steps_less w e n h in let u = ap steps_left s in omega arith
-
--- the same where the weight falls only as long as something holds that each entry keeps
-module _ {S E : Type 0} (next : S → Option E) (after : S → E → S) (weight : S → List ℕ) (Holds : S → Type 0)
-    (kept : (w : S) (e : E) → Holds w → next w ≡ Some e → Holds (after w e))
-    (falls : (w : S) (e : E) → Holds w → next w ≡ Some e → IsLess (weight (after w e)) (weight w)) where
-  lighter_next : (w : S) (e : E) → lighter next after weight w ≡ Some e → next w ≡ Some e
-  lighter_next w e n = go (next w) n
-    where
-      go : (o : Option E) → if_lighter after weight w o ≡ Some e → o ≡ Some e
-      go None m = m
-      go (Some d) m = at (cases_Bool (is_less (weight (after w d)) (weight w)))
-        where
-          at : ((is_less (weight (after w d)) (weight w) ≡ true) ⊎ (is_less (weight (after w d)) (weight w) ≡ false)) →
-              Some d ≡ Some e
-          at (inl t) = sym (cond-true _ (Some d) None t) ∙ m
-          at (inr f) = absurd (let s : None ≡ Some e = sym (cond-false _ (Some d) None f) ∙ m in cc)
-
-  lighter_none : (w : S) → Holds w → lighter next after weight w ≡ None → next w ≡ None
-  lighter_none w h n = go (next w) refl
-    where
-      go : (o : Option E) → next w ≡ o → next w ≡ None
-      go None m = m
-      go (Some e) m = absurd (let s : None ≡ Some e = sym n ∙ lighter_is next after weight w e m (falls w e h m) in cc)
-
-  takes_within : (n : ℕ) (w : S) → Holds w → Takes (lighter next after weight) after n w → Takes next after n w
-  takes_within zero w h t = lighter_none w h t
-  takes_within (suc n) w h t =
-      let m = lighter_next w t.0 t.1 in
-      (t.0, m, takes_within n (after w t.0) (kept w t.0 h m) t.2)
-
-  pub ends_within : (w : S) → Holds w → (k : ℕ) × Takes next after k w
-  ends_within w h =
-      let t = ends (lighter next after weight) after weight (lighter_falls next after weight) w in
-      (t.0, takes_within t.0 w h t.1)
-
-  pub runs_once_within : (w : S) → Holds w → (es : List E) × IsRunOf next after w es
-  runs_once_within w h = let t = ends_within w h in run_of_takes next after t.0 w t.1

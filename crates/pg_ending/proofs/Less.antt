@@ -37,21 +37,6 @@ is_less_true (x ∷ xs) (y ∷ ys) h = go (cases_Bool (nat_lt x y)) (is_less_tru
 pub is_less_decides : (xs ys : List ℕ) → (is_less xs ys ≡ true) ↔ IsLess xs ys
 is_less_decides xs ys = (is_less_true xs ys, is_less_from xs ys)
 
--- a front that is less makes the whole less
-pub less_front : (xs ys us vs : List ℕ) → length us ≡ length vs → IsLess xs ys → IsLess (xs ++ us) (ys ++ vs)
-less_front [] ys us vs l h = absurd h
-less_front (x ∷ xs) [] us vs l h = absurd h
-less_front (x ∷ xs) (y ∷ ys) us vs l (inl h) = inl (h.0, length-append xs us ∙ (omega (arith, h.1)) ∙ sym (length-append ys vs))
-less_front (x ∷ xs) (y ∷ ys) us vs l (inr h) = inr (h.0, less_front xs ys us vs l h.1)
-
--- behind equal fronts the rest decides
-pub less_back : (xs ys us vs : List ℕ) → xs ≡ ys → IsLess us vs → IsLess (xs ++ us) (ys ++ vs)
-less_back xs ys us vs e h = subst (λ zs. IsLess (xs ++ us) (zs ++ vs)) e (same xs)
-  where
-    same : (zs : List ℕ) → IsLess (zs ++ us) (zs ++ vs)
-    same [] = h
-    same (z ∷ zs) = inr (refl, same zs)
-
 -- at the first number that differs, that number decides
 pub is_less_there : (xs ys : List ℕ) (i : ℕ) → i < length xs → length xs ≡ length ys →
     (get_or xs i 0 ≡ get_or ys i 0 → ⊥) → is_less (drop i xs) (drop i ys) ≡ nat_lt (get_or xs i 0) (get_or ys i 0)

@@ -19,7 +19,8 @@ pub struct Clock {
     pub steps: u64,
 }
 
-/// What the clock does next: a step while one is left, else a round, and nothing where neither is left.
+/// What the clock does next: a step while one is left, else a round, and nothing where neither is
+/// left.
 pub fn next(clock: &Clock) -> Option<Tick>
     ensures { result ≡ next_tick clock.now }
 {

@@ -2,8 +2,8 @@
 ghost use Rattle.std.specs.Prelude.{◌↔◌, IsTrue};
 ghost use Rattle.pg_ending.specs.Weight.{IsLess};
 
-/// Whether the first list of numbers is less than the second: they have one length, and the first number that
-/// differs is smaller in the first.
+/// Whether the first list of numbers is less than the second: they have one length, and the first
+/// number that differs is smaller in the first.
 pub fn is_less(first: &[u64], second: &[u64]) -> bool
     ensures { IsTrue result ↔ IsLess first.now second.now }
 {

@@ -11,9 +11,9 @@ use Rattle.pg_exprs.specs.declared.operator.BinaryOp.TheVariants.{Compare}
 use Rattle.pg_exprs.specs.declared.operator.Comparison.{Comparison}
 use Rattle.pg_exprs.specs.declared.operator.Comparison.TheVariants.{Equal, NotEqual, Less, LessOrEqual, Greater, GreaterOrEqual}
 use Rattle.pg_exprs.specs.Evaluation.{binary_value, comparison_value}
-use Rattle.pg_exprs.specs.Laws.{mirrored}
+use Rattle.pg_exprs.specs.Laws.{mirror_image}
 
-reversed : (op : Comparison) (o : Option Ordering) → comparison_value op o ≡ comparison_value (mirrored op) (option_map ordering_reverse o)
+reversed : (op : Comparison) (o : Option Ordering) → comparison_value op o ≡ comparison_value (mirror_image op) (option_map ordering_reverse o)
 reversed _ None = refl
 reversed Equal (Some order.Less) = refl
 reversed Equal (Some order.Equal) = refl
@@ -34,6 +34,6 @@ reversed GreaterOrEqual (Some order.Less) = refl
 reversed GreaterOrEqual (Some order.Equal) = refl
 reversed GreaterOrEqual (Some order.Greater) = refl
 
-pub comparisons_mirror : (op : Comparison) (a b : Value) → binary_value (Compare op) a b ≡ binary_value (Compare (mirrored op)) b a
+pub comparisons_mirror : (op : Comparison) (a b : Value) → binary_value (Compare op) a b ≡ binary_value (Compare (mirror_image op)) b a
 comparisons_mirror op a b =
-    ap Ok (reversed op (compare_values a b) ∙ ap (comparison_value (mirrored op)) (sym (compare_values-mirrored a b)))
+    ap Ok (reversed op (compare_values a b) ∙ ap (comparison_value (mirror_image op)) (sym (compare_values-mirrored a b)))

@@ -30,10 +30,12 @@ abbrev pub truth_of : Value → Option Bool
 truth_of (OfBool b) = Some b
 truth_of _ = None
 
+-- a truth as a boolean value, where None is NULL
 abbrev pub truth_value : Option Bool → Value
 truth_value (Some b) = OfBool b
 truth_value None = Null
 
+-- whether a value is NULL
 abbrev pub is_null : Value → Bool
 is_null Null = true
 is_null _ = false
@@ -43,6 +45,7 @@ abbrev pub differ : Option Ordering → Bool
 differ (Some order) = is_ne order
 differ None = true
 
+-- whether two values are distinct
 abbrev pub are_distinct : Value → Value → Bool
 are_distinct Null Null = false
 are_distinct a b = differ (compare_values a b)
@@ -56,6 +59,7 @@ holds_at LessOrEqual order = is_le order
 holds_at Greater order = is_gt order
 holds_at GreaterOrEqual order = is_ge order
 
+-- the value of a comparison of two values in this order; None, where one of them is NULL, gives NULL
 abbrev pub comparison_value : Comparison → Option Ordering → Value
 comparison_value _ None = Null
 comparison_value op (Some order) = OfBool (holds_at op order)
@@ -66,18 +70,22 @@ number_cause number_fault.IntRange = IntRange
 number_cause number_fault.BigRange = BigRange
 number_cause number_fault.ZeroDivisor = ZeroDivisor
 
+-- an error of texts as an error of an evaluation
 abbrev pub text_cause : TextFault → EvalFault
 text_cause text_fault.TooLong = TooLong
 text_cause text_fault.Memory = Memory
 
+-- the outcome of an operator on numbers as the outcome of an evaluation
 abbrev pub number_outcome : Result Value NumberFault → Result Value EvalFault
 number_outcome (Ok value) = Ok value
 number_outcome (Err fault) = Err (number_cause fault)
 
+-- the outcome of an operator on texts as the outcome of an evaluation
 abbrev pub text_outcome : Result Value TextFault → Result Value EvalFault
 text_outcome (Ok value) = Ok value
 text_outcome (Err fault) = Err (text_cause fault)
 
+-- the five operators on numbers
 abbrev pub arithmetic_value : Arithmetic → Value → Value → Result Value NumberFault
 arithmetic_value Add a b = add_values a b
 arithmetic_value Subtract a b = subtract_values a b
@@ -92,6 +100,7 @@ unary_value IsNull a = Ok (OfBool (is_null a))
 unary_value IsNotNull a = Ok (OfBool (not (is_null a)))
 unary_value Negate a = number_outcome (negate_value a)
 
+-- an operator on two values
 abbrev pub binary_value : BinaryOp → Value → Value → Result Value EvalFault
 binary_value Or a b = Ok (truth_value (or_truths (truth_of a) (truth_of b)))
 binary_value And a b = Ok (truth_value (and_truths (truth_of a) (truth_of b)))
@@ -117,6 +126,7 @@ abbrev pub right_outcome : BinaryOp → Value → Result Value EvalFault → Res
 right_outcome op a (Err fault) = Err fault
 right_outcome op a (Ok b) = binary_value op a b
 
+-- the left side's error is the operator's; else the right side counts unless the left side decides
 abbrev pub binary_outcome : BinaryOp → Result Value EvalFault → Result Value EvalFault → Result Value EvalFault
 binary_outcome op (Err fault) _ = Err fault
 binary_outcome op (Ok a) right = if decides op a then Ok a else right_outcome op a right

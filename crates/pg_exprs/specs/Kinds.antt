@@ -18,12 +18,14 @@ is_boolean None = true
 is_boolean (Some kind.Bool) = true
 is_boolean _ = false
 
+-- what may stand where a number is asked for
 abbrev pub is_number : Option Kind → Bool
 is_number None = true
 is_number (Some kind.Int) = true
 is_number (Some kind.Big) = true
 is_number _ = false
 
+-- what may stand where a text is asked for
 abbrev pub is_text : Option Kind → Bool
 is_text None = true
 is_text (Some kind.Text) = true
@@ -43,15 +45,18 @@ number_kind (Some kind.Big) _ = kind.Big
 number_kind _ (Some kind.Big) = kind.Big
 number_kind _ _ = kind.Int
 
+-- the kind of an operator on numbers
 abbrev pub arithmetic_kind : Option Kind → Option Kind → Result (Option Kind) KindFault
 arithmetic_kind a b = kind_if (is_number a && is_number b) (number_kind a b)
 
+-- the kind of an operator over an operand of this kind
 abbrev pub unary_kind : UnaryOp → Option Kind → Result (Option Kind) KindFault
 unary_kind Not a = kind_if (is_boolean a) kind.Bool
 unary_kind IsNull _ = Ok (Some kind.Bool)
 unary_kind IsNotNull _ = Ok (Some kind.Bool)
 unary_kind Negate a = arithmetic_kind a None
 
+-- the kind of an operator between operands of these kinds
 abbrev pub binary_kind : BinaryOp → Option Kind → Option Kind → Result (Option Kind) KindFault
 binary_kind Or a b = kind_if (is_boolean a && is_boolean b) kind.Bool
 binary_kind And a b = kind_if (is_boolean a && is_boolean b) kind.Bool
@@ -66,6 +71,7 @@ abbrev pub unary_kind_of : UnaryOp → Result (Option Kind) KindFault → Result
 unary_kind_of op (Ok a) = unary_kind op a
 unary_kind_of op (Err fault) = Err fault
 
+-- an operand without a kind leaves none; the left one comes first
 abbrev pub binary_kind_of : BinaryOp → Result (Option Kind) KindFault → Result (Option Kind) KindFault → Result (Option Kind) KindFault
 binary_kind_of op (Ok a) (Ok b) = binary_kind op a b
 binary_kind_of op (Ok a) (Err fault) = Err fault

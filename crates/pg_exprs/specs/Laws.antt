@@ -32,14 +32,14 @@ abbrev pub EvaluationNeedsNoMemory : Type 0
 EvaluationNeedsNoMemory = (tree : Tree) (env : Environment) → eval tree env ≢ Err Memory
 
 -- the comparison that says the same with its sides exchanged
-abbrev pub mirrored : Comparison → Comparison
-mirrored Equal = Equal
-mirrored NotEqual = NotEqual
-mirrored Less = Greater
-mirrored LessOrEqual = GreaterOrEqual
-mirrored Greater = Less
-mirrored GreaterOrEqual = LessOrEqual
+abbrev pub mirror_image : Comparison → Comparison
+mirror_image Equal = Equal
+mirror_image NotEqual = NotEqual
+mirror_image Less = Greater
+mirror_image LessOrEqual = GreaterOrEqual
+mirror_image Greater = Less
+mirror_image GreaterOrEqual = LessOrEqual
 
 -- a comparison and its mirrored one agree
 abbrev pub ComparisonsMirror : Type 0
-ComparisonsMirror = (op : Comparison) (a b : Value) → binary_value (Compare op) a b ≡ binary_value (Compare (mirrored op)) b a
+ComparisonsMirror = (op : Comparison) (a b : Value) → binary_value (Compare op) a b ≡ binary_value (Compare (mirror_image op)) b a

@@ -18,12 +18,15 @@ pub struct Expr {
 #[cycle(expr)]
 #[derive(Drop)]
 pub enum Node {
+    /// A value.
     Literal(Value),
     /// A source and one of its columns, both counted from 0.
     Column(u32, u32),
     /// `merge_action()`.
     Action,
+    /// An operator over its operand.
     Unary(UnaryOp, Box<Expr>),
+    /// An operator between its left and its right operand.
     Binary(BinaryOp, Box<Expr>, Box<Expr>),
 }
 
@@ -43,6 +46,7 @@ impl Model for Expr {
 }
 
 impl Expr {
+    /// The expression that is this value.
     pub fn literal(value: Value) -> Expr
         ensures { result ≡ literal value }
     {
@@ -51,6 +55,7 @@ impl Expr {
         }
     }
 
+    /// The column of a source, both counted from 0.
     pub fn column(source: u32, column: u32) -> Expr
         ensures { result ≡ column_tree source column }
     {
@@ -59,12 +64,14 @@ impl Expr {
         }
     }
 
+    /// `merge_action()`, which tells the action of a MERGE that gave a row.
     pub fn action() -> Expr
         ensures { result ≡ action }
     {
         Expr { node: Node::Action }
     }
 
+    /// The operator over the operand; `AllocError` where there is no room for its node.
     pub fn unary(alloc: Global, op: UnaryOp, operand: Expr) -> Result<Expr, AllocError>
         ensures { IfOk result (λ expr. expr ≡ unary op operand) }
     {
@@ -74,6 +81,7 @@ impl Expr {
         })
     }
 
+    /// The operator between the two; `AllocError` where there is no room for their nodes.
     pub fn binary(alloc: Global, op: BinaryOp, left: Expr, right: Expr) -> Result<Expr, AllocError>
         ensures { IfOk result (λ expr. expr ≡ binary op left right) }
     {
@@ -84,6 +92,7 @@ impl Expr {
         })
     }
 
+    /// A tree of its own, equal to this one; `AllocError` where there is no room for it.
     pub fn copy(&self, alloc: Global) -> Result<Expr, AllocError>
         ensures { IfOk result (λ expr. expr ≡ self.now) }
     {

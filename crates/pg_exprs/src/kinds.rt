@@ -1,5 +1,5 @@
 ghost use Rattle.std.specs.Prelude.{◌≡◌};
-ghost use Rattle.pg_exprs.specs.Kinds.{is_boolean, is_number, is_text, are_comparable, number_kind, kind_if, unary_kind, binary_kind, kind_of as kind_of_tree};
+ghost use Rattle.pg_exprs.specs.Kinds.{is_boolean, is_number, is_text, are_comparable, number_kind, kind_if, unary_kind as kind_of_unary, binary_kind as kind_of_binary, kind_of as kind_of_tree};
 
 use crate::expr::{Expr, Node};
 use crate::operator::{BinaryOp, UnaryOp};
@@ -15,7 +15,8 @@ pub enum KindFault {
     NoOperator,
 }
 
-fn takes_boolean(kind: Option<Kind>) -> bool
+/// Whether something that takes a boolean takes an operand of this kind: a boolean, or a bare NULL.
+pub fn takes_boolean(kind: Option<Kind>) -> bool
     ensures { result ≡ is_boolean kind }
 {
     matches!(kind, None | Some(Kind::Bool))
@@ -60,8 +61,10 @@ fn taken(taken: bool, kind: Kind) -> Result<Option<Kind>, KindFault>
     }
 }
 
-fn of_unary(op: UnaryOp, a: Option<Kind>) -> Result<Option<Kind>, KindFault>
-    ensures { result ≡ unary_kind op a }
+/// The kind of an operator over an operand of this kind. `NoOperator` comes exactly where it does
+/// not take it.
+pub fn unary_kind(op: UnaryOp, a: Option<Kind>) -> Result<Option<Kind>, KindFault>
+    ensures { result ≡ kind_of_unary op a }
 {
     match op {
         UnaryOp::Not => taken(takes_boolean(a), Kind::Bool),
@@ -70,8 +73,14 @@ fn of_unary(op: UnaryOp, a: Option<Kind>) -> Result<Option<Kind>, KindFault>
     }
 }
 
-fn of_binary(op: BinaryOp, a: Option<Kind>, b: Option<Kind>) -> Result<Option<Kind>, KindFault>
-    ensures { result ≡ binary_kind op a b }
+/// The kind of an operator over operands of these kinds. `NoOperator` comes exactly where it does
+/// not take them.
+pub fn binary_kind(
+    op: BinaryOp,
+    a: Option<Kind>,
+    b: Option<Kind>,
+) -> Result<Option<Kind>, KindFault>
+    ensures { result ≡ kind_of_binary op a b }
 {
     match op {
         BinaryOp::Or | BinaryOp::And => taken(takes_boolean(a) && takes_boolean(b), Kind::Bool),
@@ -84,8 +93,9 @@ fn of_binary(op: BinaryOp, a: Option<Kind>, b: Option<Kind>) -> Result<Option<Ki
     }
 }
 
-/// The kind of an expression, where its columns have the kinds of the shape: `None` for a bare NULL,
-/// which is taken as any kind. `NoOperator` comes exactly where an operator does not take its operands.
+/// The kind of an expression, where its columns have the kinds of the shape: `None` for a bare
+/// NULL, which is taken as any kind. `NoOperator` comes exactly where an operator does not take its
+/// operands.
 pub fn kind_of(expr: &Expr, shape: &Shape) -> Result<Option<Kind>, KindFault>
     ensures { result ≡ kind_of_tree expr.now shape.now }
 {
@@ -93,11 +103,11 @@ pub fn kind_of(expr: &Expr, shape: &Shape) -> Result<Option<Kind>, KindFault>
         Node::Literal(value) => Ok(value.kind()),
         Node::Column(source, column) => Ok(shape.column(*source, *column)),
         Node::Action => Ok(Some(Kind::Text)),
-        Node::Unary(op, operand) => of_unary(*op, kind_of(operand, shape)?),
+        Node::Unary(op, operand) => unary_kind(*op, kind_of(operand, shape)?),
         Node::Binary(op, left, right) => {
             let left = kind_of(left, shape)?;
             let right = kind_of(right, shape)?;
-            of_binary(*op, left, right)
+            binary_kind(*op, left, right)
         }
     }
 }

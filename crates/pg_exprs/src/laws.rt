@@ -11,8 +11,8 @@ pub fn evaluation_needs_no_memory()
     ensures { EvaluationNeedsNoMemory }
 {}
 
-/// `a < b` says what `b > a` says, and likewise for the other comparisons: with its sides exchanged, a
-/// comparison has the value of the mirrored one.
+/// `a < b` says what `b > a` says, and likewise for the other comparisons: with its sides
+/// exchanged, a comparison has the value of the mirrored one.
 pub fn comparisons_mirror()
     ensures { ComparisonsMirror }
 {}

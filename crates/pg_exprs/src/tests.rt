@@ -1,7 +1,7 @@
 //! Values from outside: PostgreSQL's manual, and a server of version 15 that was asked each row.
 //!
-//! A table writes `5` for an integer, `5b` for a bigint, `'a'` for a text, and an error by its text.
-//! It is a text of one row a line: tables of tuples take many times as long to prove.
+//! A table writes `5` for an integer, `5b` for a bigint, `'a'` for a text, and an error by its
+//! text. It is a text of one row a line: tables of tuples take many times as long to prove.
 use super::BinaryOp::{And, Compare, Compute, Concat, IsDistinctFrom, IsNotDistinctFrom, Or};
 use super::*;
 use pg_values::Value::{Bool, Int, Null};

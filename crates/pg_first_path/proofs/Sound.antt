@@ -23,7 +23,7 @@ use Rattle.pg_first_path.specs.Lines.{lines_of, line_at}
 use Rattle.pg_names.specs.Names.{are_distinct}
 use Rattle.pg_first_path.specs.Scripts.{most_sessions, is_line}
 use Rattle.pg_values.specs.declared.value.Value.{Value}
-use Rattle.pg_lists.specs.Numbered.{changed, changed_from_one}
+use Rattle.pg_lists.specs.Numbered.{with_changed_item, with_changed_nth_item}
 use Rattle.pg_first_path.specs.Worlds.{fresh_session, empty_table, first_world}
 use Rattle.pg_first_path.specs.Moves.{IsPermitted}
 use Rattle.pg_first_path.specs.Effect.{snapped, found, proposed, placed, settled, inserted, committed, replied, closed, act_effect, effect}
@@ -32,7 +32,7 @@ use Rattle.pg_first_path.proofs.Lists.{each_set, all_each, sum_set, sum_most, su
 use Rattle.pg_first_path.proofs.Needs.{IsAtLine, IsAtEnd, IsAtStage, Needs, move_of}
 
 -- no item more or less by a change
-pub length_changed : {X : Type 0} (change : X → X) (xs : List X) (i : ℕ) → length (changed change xs i) ≡ length xs
+pub length_changed : {X : Type 0} (change : X → X) (xs : List X) (i : ℕ) → length (with_changed_item change xs i) ≡ length xs
 length_changed {X = X} change xs i = at (slice_get xs i)
   where
     at : (o : Option X) → length (option_map_or (λ x. slice_set xs i (change x)) o xs) ≡ length xs
@@ -41,7 +41,7 @@ length_changed {X = X} change xs i = at (slice_get xs i)
 
 -- wherever the numbers begin
 length_changed_from_one : {X : Type 0} (change : X → X) (xs : List X) (number : ℕ) →
-    length (changed_from_one change xs number) ≡ length xs
+    length (with_changed_nth_item change xs number) ≡ length xs
 length_changed_from_one change xs zero = refl
 length_changed_from_one change xs (suc before) = length_changed change xs before
 

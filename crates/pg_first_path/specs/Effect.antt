@@ -22,7 +22,7 @@ use Rattle.pg_first_path.specs.declared.world.Stage.TheVariants.{Settled, Found,
 use Rattle.pg_first_path.specs.declared.world.World.{World}
 use Rattle.pg_first_path.specs.Lines.{line_at}
 use Rattle.pg_first_path.specs.Candidates.{candidate_of}
-use Rattle.pg_lists.specs.Numbered.{changed_from_one}
+use Rattle.pg_lists.specs.Numbered.{with_changed_nth_item}
 use Rattle.pg_first_path.specs.Worlds.{session_of, with_session, with_table}
 
 -- the session with its statement at another place; one that is in no statement stays as it is
@@ -96,7 +96,7 @@ inserted world session x table row =
     begun old = record { versions = first_version ∷ [] }
 
     stored : TableView → TableView
-    stored view = record { rows = changed_from_one begun view.rows row }
+    stored view = record { rows = with_changed_nth_item begun view.rows row }
 
 -- Committed: the transaction takes the next place in the commit order
 abbrev pub committed : World → ℕ → SessionView → World
@@ -111,7 +111,7 @@ committed world session x =
 
     ended : Option ℕ → Transactions
     ended None = world.transactions
-    ended (Some number) = record { list = changed_from_one given world.transactions.list number; commits = next }
+    ended (Some number) = record { list = with_changed_nth_item given world.transactions.list number; commits = next }
 
 -- Replied: the line has its reply, and the session stands between statements
 abbrev pub replied : World → ℕ → SessionView → World

@@ -12,7 +12,7 @@ use Rattle.pg_first_path.specs.declared.journal.Reply.{Reply}
 use Rattle.pg_first_path.specs.declared.journal.Entry.{Entry}
 use Rattle.pg_first_path.specs.declared.journal.EntryAct.{EntryAct}
 use Rattle.pg_first_path.specs.declared.journal.EntryAct.TheVariants.{Snapped, Found, Placed, Inserted, Committed, Replied, Closed}
-use Rattle.pg_lists.specs.Numbered.{numbered}
+use Rattle.pg_lists.specs.Numbered.{item_at}
 use Rattle.pg_first_path.specs.Rows.{tables_of}
 use Rattle.pg_first_path.specs.Journals.{world_after}
 
@@ -42,7 +42,7 @@ tag_text (Insert rows) = codes "INSERT 0 " ++ decimal rows
 
 -- the name of the session or table of that number
 abbrev pub name_of : List (List ℕ) → ℕ → List ℕ
-name_of names number = unwrap_or (numbered names number) []
+name_of names number = unwrap_or (item_at names number) []
 
 -- a reply: `name> VALUES` for each returned row, then `name: TAG`
 abbrev pub reply_text : List ℕ → Reply → List ℕ

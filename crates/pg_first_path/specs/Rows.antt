@@ -8,13 +8,13 @@ use Rattle.pg_first_path.specs.declared.world.Transaction.{Transaction}
 use Rattle.pg_first_path.specs.declared.world.Status.{Status}
 use Rattle.pg_first_path.specs.declared.world.Status.TheVariants.{Running, Committed}
 use Rattle.pg_first_path.specs.declared.world.World.{World}
-use Rattle.pg_lists.specs.Numbered.{numbered_from_one}
+use Rattle.pg_lists.specs.Numbered.{nth_item}
 
 -- the status of the transaction of that number; what setup stores is written by transaction 0,
 -- committed before all others
 abbrev pub status_of : List Transaction → ℕ → Option Status
 status_of transactions zero = Some (Committed 0)
-status_of transactions (suc before) = option_map (λ t. t.status) (numbered_from_one transactions (suc before))
+status_of transactions (suc before) = option_map (λ t. t.status) (nth_item transactions (suc before))
 
 abbrev pub is_committed_status : Option Status → Bool
 is_committed_status (Some (Committed place)) = true

@@ -7,7 +7,7 @@ use Rattle.pg_first_path.specs.declared.script.Statement.{Statement}
 use Rattle.pg_first_path.specs.declared.script.Statement.TheVariants.{Insert}
 use Rattle.pg_first_path.specs.declared.script.Line.{Line}
 use Rattle.pg_names.specs.Names.{are_distinct}
-use Rattle.pg_lists.specs.Numbered.{numbered}
+use Rattle.pg_lists.specs.Numbered.{item_at}
 
 -- a script names at most this many sessions
 abbrev pub most_sessions : ℕ
@@ -24,7 +24,7 @@ fits rows (Some shape) = list_all (λ row. length row == length shape.columns) r
 
 -- the statement names a table that exists, and its rows fit there
 abbrev pub is_statement : List TableShape → Statement → Bool
-is_statement catalogue (Insert table rows) = fits rows (numbered catalogue table)
+is_statement catalogue (Insert table rows) = fits rows (item_at catalogue table)
 
 -- the line names a session that exists, and its statement fits the catalogue
 abbrev pub is_line : ℕ → List TableShape → Line → Bool

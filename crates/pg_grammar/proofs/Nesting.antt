@@ -72,58 +72,6 @@ module _ {T V : Type 0} (opening closing : T) (atom : Lang T V) (tail : V → La
             (f.0, f.1, f.2, snoc_in closing tail n f.0 m f.1 v z (whole.0, whole.1, f.3, (b.2.0, b.2.1, whole.3, b.2.3)))
       ]
 
-  -- n brackets that open, and what is behind them
-  pub leads_openings : (follows : Option T → Bool) (n : ℕ) (xs ys : List T) → xs ≡ replicate n opening ++ ys →
-      (next ys ≡ Some opening → ⊥) → Leads factor xs (bind atom (closes closing tail n)) ys follows
-  leads_openings follows n xs ys e h =
-      rw e
-      (leads_behind factor (bind atom (closes closing tail n)) follows (replicate n opening) ys
-      (λ m s v z l. inside_into n m s v z l)
-      (λ m s v z d l f. inside_out n m s v z (λ o. h (sym d ∙ o)) l))
-
-module _ {T V : Type 0} (closing : T) (tail : V → Lang T V) (behind whole follows : Option T → Bool)
-    (tail_starts : (v : V) → Starts behind (tail v) whole) (closed : whole (Some closing) ≡ true)
-    (wider : (o : Option T) → follows o ≡ true → behind o ≡ true) (words : (v : V) → Spelled (tail v)) where
-  -- what stands behind a factor in n brackets
-  pub starts_closes : (n : ℕ) (v : V) → Starts behind (closes closing tail n v) follows
-  starts_closes zero v = starts_gives behind follows v wider
-  starts_closes (suc n) v =
-      starts_bind behind whole follows (tail v) (λ e. token closing (closes closing tail n e)) (tail_starts v)
-      (λ e. starts_token whole follows closing (closes closing tail n e) closed)
-
-  pub spelled_closes : (n : ℕ) (v : V) → Spelled (closes closing tail n v)
-  spelled_closes zero v = spelled_gives v
-  spelled_closes (suc n) v =
-      spelled_bind (tail v) (λ e. token closing (closes closing tail n e)) (words v)
-      (λ e. spelled_token closing (closes closing tail n e) (spelled_closes n e))
-
-  -- one turn: a tail, and a bracket that closes
-  pub leads_close : (n : ℕ) (v e : V) (xs ys zs : List T) → Reads (tail v) whole xs (read e ys) →
-      ys ≡ closing ∷ zs → Leads (closes closing tail (suc n) v) xs (closes closing tail n e) zs follows
-  leads_close n v e xs ys zs r c =
-      leads_on
-      (leads_bind (tail v) (λ e. token closing (closes closing tail n e)) whole follows xs ys e r (λ u. starts_token whole follows closing (closes closing tail n u) closed))
-      (leads_token closing (closes closing tail n e) follows ys zs c)
-
-  -- or a fault in the tail
-  pub reads_close_failed : (n : ℕ) (v : V) (xs : List T) (e : Fault) → Reads (tail v) whole xs (failed e) →
-      Reads (closes closing tail (suc n) v) follows xs (failed e)
-  reads_close_failed n v xs e r =
-      reads_bind_failed (tail v) (λ e. token closing (closes closing tail n e)) whole follows xs e r
-      (λ u. starts_token whole follows closing (closes closing tail n u) closed)
-      (λ u. spelled_token closing (closes closing tail n u) (spelled_closes n u))
-
-  -- or no bracket that closes
-  pub reads_not_closed : (n : ℕ) (v e : V) (xs ys : List T) (left : ℕ) → Reads (tail v) whole xs (read e ys) →
-      (next ys ≡ Some closing → ⊥) → left ≡ length ys →
-      Reads (closes closing tail (suc n) v) follows xs (failed (Syntax left))
-  reads_not_closed n v e xs ys left r c h =
-      (leads_bind (tail v) (λ e. token closing (closes closing tail n e)) whole follows xs ys e r (λ u. starts_token whole follows closing (closes closing tail n u) closed)).to
-      (failed (Syntax left))
-      (reads_refused (token closing (closes closing tail n e)) follows ys left
-      (bars_token follows closing (closes closing tail n e) 0 ys c)
-      (spelled_token closing (closes closing tail n e) (spelled_closes n e)) h)
-
 -- one bracket more
 pub replicate_next : {T : Type 0} (t : T) (n : ℕ) (xs ys zs : List T) → xs ≡ replicate n t ++ ys → ys ≡ t ∷ zs →
     xs ≡ replicate (n + 1) t ++ zs

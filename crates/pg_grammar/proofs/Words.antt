@@ -206,16 +206,8 @@ spelled_right L M a = record { word = a.word; value = a.value; spells = λ m z w
 pub spelled_more : {T V : Type 0} (step : V → Lang T V) (acc : V) → Spelled (more step acc)
 spelled_more step acc = record { word = []; value = acc; spells = λ m z w. (zero, (refl, refl)) }
 
-pub begun_reaches : {T V : Type 0} (t : T) (k : Limit) (h : ℕ) (L : Lang T V) → Begun t L → Begun t (reaches k h L)
-begun_reaches t k h L a = record { word = a.word; value = a.value; spells = λ m z w. (λ b. absurd (let l = w k in omega (arith, l, b)), a.spells m z w) }
-
 pub spelled_reaches : {T V : Type 0} (k : Limit) (h : ℕ) (L : Lang T V) → Spelled L → Spelled (reaches k h L)
 spelled_reaches k h L a = record { word = a.word; value = a.value; spells = λ m z w. (λ b. absurd (let l = w k in omega (arith, l, b)), a.spells m z w) }
-
--- a rule that leads back to itself has the words that it has at any rate
-pub begun_knot : {T V I : Type 0} (t : T) (G : (I → Lang T V) → I → Lang T V) (i : I) →
-    ((F : I → Lang T V) → Begun t (G F i)) → Begun t (knot G i)
-begun_knot t G i a = let b = a (tie G zero) in record { word = b.word; value = b.value; spells = λ m z w. (suc zero, inr (b.spells m z w)) }
 
 pub spelled_knot : {T V I : Type 0} (G : (I → Lang T V) → I → Lang T V) (i : I) →
     ((F : I → Lang T V) → Spelled (G F i)) → Spelled (knot G i)

@@ -47,6 +47,7 @@ pub record IsFault {T V : Type 0} (over : Option Limit) (L : Lang T V) (follows 
   pub none : (m : Limit → ℕ) (z z' : List T) (v' : V) → ((k : Limit) → over ≡ Some k → m k < length z) →
       next z ≡ next rest → L m (front ++ z) v' z' → follows (next z') ≡ true → ⊥
 
+-- what is read is in the language, and longest; a fault stands at the first place where nothing could go on
 abbrev pub Answers : {T V : Type 0} → Lang T V → (Option T → Bool) → List T → Seen T V → Type 0
 Answers L follows xs (read v rest) = IsRead L follows xs v rest
 Answers L follows xs (failed (Syntax n)) = IsFault None L follows xs n

@@ -1,6 +1,7 @@
 -- What stands first, as the small functions of a parser answer it.
 use Rattle.std.specs.Prelude.{Bool, List, [], ◌∷◌, Option, Some, None, if◌then◌else◌}
 
+-- what was taken, if something was, with the tokens behind it
 abbrev pub with_rest : {T X : Type 0} → List T → Option X → Option (X × List T)
 with_rest z None = None
 with_rest z (Some x) = Some (x, z)

@@ -6,6 +6,7 @@ pub data Limit : Type 0 where
   nodes : Limit
   sources : Limit
 
+-- how many of each a statement may have
 abbrev pub most : Limit → ℕ
 most nodes = 64
 most sources = 8

@@ -4,6 +4,7 @@ use Rattle.pg_grammar.specs.declared.fault.Fault.{Fault}
 use Rattle.pg_grammar.specs.declared.part.Part.{Part}
 use Rattle.pg_grammar.specs.Answers.{Seen, read, failed}
 
+-- a part with the tokens behind it, or the fault
 abbrev pub seen : {T V : Type 0} → Result (Part T V) Fault → Seen T V
 seen (Ok p) = read p.value p.rest.now
 seen (Err e) = failed e

@@ -13,7 +13,7 @@ use Rattle.pg_lexer.specs.declared.token.Found.TheVariants as found
 use Rattle.pg_lexer.specs.declared.token.Token.TheVariants as token
 use Rattle.pg_lexer.specs.Bytes.{begins_word, in_word, is_word, is_name, is_text, is_printed, is_blank, Starts}
 use Rattle.pg_lexer.specs.Keywords.{keyword_of}
-use Rattle.pg_lexer.specs.Lexemes.{word, digits, text, unended, mark, quoted, IsLongest, meaning, number_of, word_token, text_token}
+use Rattle.pg_lexer.specs.Lexemes.{word, digits, text, unended, mark, quoted_form, IsLongest, meaning, number_of, word_token, text_token}
 use Rattle.pg_lexer.specs.Found.{IsFound, IsEnded, IsUnended, begins_no_other, longest_sign}
 use Rattle.pg_lexer.proofs.Exact.{others}
 use Rattle.pg_lexer.proofs.Longest.{word_longest, digits_longest, text_longest, unended_longest, sign_longest, no_sign}
@@ -109,16 +109,16 @@ none_fails p xs none = ⊎_elim
     (cases_Bool (leb (suc (prefix_len (λ x. not (not (p x))) xs)) (length xs)))
 
 -- a text whose written form is printed is printed
-pub printed_value : (value behind : List ℕ) → list_all is_printed (quoted value ++ behind) ≡ true → list_all is_printed value ≡ true
-unfolding quoted
+pub printed_value : (value behind : List ℕ) → list_all is_printed (quoted_form value ++ behind) ≡ true → list_all is_printed value ≡ true
+unfolding quoted_form
 printed_value [] behind all = refl
 printed_value (b ∷ value) behind all = ⊎_elim
     (λ quote.
-    let written : list_all is_printed (39 ∷ 39 ∷ (quoted value ++ behind)) ≡ true = rw (cond-true (eqb b 39) (39 ∷ 39 ∷ []) (b ∷ []) quote) at all in
+    let written : list_all is_printed (39 ∷ 39 ∷ (quoted_form value ++ behind)) ≡ true = rw (cond-true (eqb b 39) (39 ∷ 39 ∷ []) (b ∷ []) quote) at all in
     and_from (is_printed b) _ (rw (eqb-true b 39 quote) refl) (printed_value value behind written))
     (λ other.
-    let written : list_all is_printed (b ∷ (quoted value ++ behind)) ≡ true = rw (cond-false (eqb b 39) (39 ∷ 39 ∷ []) (b ∷ []) other) at all in
-    let parts = and_parts (is_printed b) (list_all is_printed (quoted value ++ behind)) written in
+    let written : list_all is_printed (b ∷ (quoted_form value ++ behind)) ≡ true = rw (cond-false (eqb b 39) (39 ∷ 39 ∷ []) (b ∷ []) other) at all in
+    let parts = and_parts (is_printed b) (list_all is_printed (quoted_form value ++ behind)) written in
     and_from (is_printed b) _ parts.0 (printed_value value behind parts.1))
     (cases_Bool (eqb b 39))
 
@@ -128,7 +128,7 @@ unfolding meaning
 unended_text [] place starts open_end = absurd starts
 unended_text (b ∷ bs) place starts open_end =
     let quote = eqb-true b 39 starts in
-    let written : b ∷ bs ≡ 39 ∷ quoted open_end.0 = (λ i. quote i ∷ open_end.1 i) in
+    let written : b ∷ bs ≡ 39 ∷ quoted_form open_end.0 = (λ i. quote i ∷ open_end.1 i) in
     inl (
       b ∷ bs,
       [],
@@ -143,14 +143,14 @@ unended_text (b ∷ bs) place starts open_end =
 -- a text that ends, by the bytes behind its opening quote
 record IsWritten (bytes value : List ℕ) (n : ℕ) : Type 0 where
   within : n + 1 ≤ length bytes
-  front : take (n + 1) bytes ≡ 39 ∷ (quoted value ++ 39 ∷ [])
+  front : take (n + 1) bytes ≡ 39 ∷ (quoted_form value ++ 39 ∷ [])
   longest : IsLongest (text value) (take (n + 1) bytes) (drop (n + 1) bytes)
 
 written_text : (bytes value : List ℕ) (n : ℕ) → Starts (λ b. eqb b 39) bytes → IsEnded (drop 1 bytes) value n → IsWritten bytes value n
 written_text [] value n starts ended = absurd starts
 written_text (b ∷ bs) value n starts ended =
     let quote = eqb-true b 39 starts in
-    let front : take (n + 1) (b ∷ bs) ≡ 39 ∷ (quoted value ++ 39 ∷ []) = rw add-one (λ i. quote i ∷ ended.written i) in
+    let front : take (n + 1) (b ∷ bs) ≡ 39 ∷ (quoted_form value ++ 39 ∷ []) = rw add-one (λ i. quote i ∷ ended.written i) in
     let after : drop (n + 1) (b ∷ bs) ≡ drop n bs = rw add-one refl in
     let within = ended.within in
     record {
@@ -211,7 +211,7 @@ module _ (bytes : List ℕ) (place n : ℕ) (value : List ℕ) (starts : Starts 
   unfolding is_text
   text_printed short is =
       let front = (written_text bytes value n starts ended).front in
-      let all : list_all is_printed (39 ∷ (quoted value ++ 39 ∷ [])) ≡ true = rw front at (none_fails is_printed (take (n + 1) bytes) (sym is)) in
+      let all : list_all is_printed (39 ∷ (quoted_form value ++ 39 ∷ [])) ≡ true = rw front at (none_fails is_printed (take (n + 1) bytes) (sym is)) in
       and_from (list_all is_printed value) _ (printed_value value (39 ∷ []) all) (le-leb (length value) 4096 short)
 
 -- ---- signs

@@ -13,7 +13,7 @@ use Rattle.pg_lexer.specs.declared.sign.Sign.{Sign}
 use Rattle.pg_lexer.specs.Found.{begins_no_other}
 use Rattle.pg_lexer.specs.Bytes.{is_blank, begins_word, in_word, Starts}
 use Rattle.pg_lexer.specs.Signs.{signs, sign_of}
-use Rattle.pg_lexer.specs.Lexemes.{Lexeme, word, digits, text, unended, mark, quoted, Spells}
+use Rattle.pg_lexer.specs.Lexemes.{Lexeme, word, digits, text, unended, mark, quoted_form, Spells}
 
 -- what is found in a table of signs passes each test that its entries pass
 looked_up : (p : List ℕ → Bool) (bytes : List ℕ) (sign : Sign) (table : List (List ℕ × Sign))
@@ -93,8 +93,8 @@ inside false (b ∷ bs) = cond (eqb b 39) (inside true bs) (option_map (push b) 
 inside true (b ∷ bs) = cond (eqb b 39) (option_map (push 39) (inside false bs)) None
 
 inside_quoted : (value behind : List ℕ) (found : Option Lexeme) → inside false behind ≡ found
-    → inside false (quoted value ++ behind) ≡ option_map (push_all value) found
-unfolding inside quoted push_all
+    → inside false (quoted_form value ++ behind) ≡ option_map (push_all value) found
+unfolding inside quoted_form push_all
 inside_quoted [] behind None e = e
 inside_quoted [] behind (Some l) e = e
 inside_quoted (b ∷ value) behind found e =
@@ -141,17 +141,17 @@ pub lexeme_of_nothing : lexeme_of [] ≡ None
 unfolding lexeme_of
 lexeme_of_nothing = refl
 
-pub lexeme_of_text : (value : List ℕ) → lexeme_of (39 ∷ (quoted value ++ 39 ∷ [])) ≡ Some (text value)
+pub lexeme_of_text : (value : List ℕ) → lexeme_of (39 ∷ (quoted_form value ++ 39 ∷ [])) ≡ Some (text value)
 unfolding lexeme_of inside
 lexeme_of_text value = inside_quoted value (39 ∷ []) (Some (text [])) refl ∙ ap Some (all_text value)
 
-pub lexeme_of_unended : (value : List ℕ) → lexeme_of (39 ∷ quoted value) ≡ Some (unended value)
+pub lexeme_of_unended : (value : List ℕ) → lexeme_of (39 ∷ quoted_form value) ≡ Some (unended value)
 unfolding lexeme_of inside
 lexeme_of_unended value =
-    ap (inside false) (sym (append-nil (quoted value))) ∙ inside_quoted value [] (Some (unended [])) refl ∙ ap Some (all_unended value)
+    ap (inside false) (sym (append-nil (quoted_form value))) ∙ inside_quoted value [] (Some (unended [])) refl ∙ ap Some (all_unended value)
 
 -- no lexeme begins with a text and goes on with another byte than a quote
-pub lexeme_of_longer : (value : List ℕ) (c : ℕ) (rest : List ℕ) → eqb c 39 ≡ false → lexeme_of (39 ∷ (quoted value ++ 39 ∷ c ∷ rest)) ≡ None
+pub lexeme_of_longer : (value : List ℕ) (c : ℕ) (rest : List ℕ) → eqb c 39 ≡ false → lexeme_of (39 ∷ (quoted_form value ++ 39 ∷ c ∷ rest)) ≡ None
 unfolding lexeme_of inside
 lexeme_of_longer value c rest other = inside_quoted value (39 ∷ c ∷ rest) None (cond-false (eqb c 39) _ _ other)
 

@@ -8,8 +8,8 @@ use Rattle.std.proofs.lemmas.Bool.Decides.{nat_tests}
 use Rattle.pg_lexer.specs.declared.sign.Sign.{Sign}
 use Rattle.pg_lexer.specs.Bytes.{begins_word, in_word, Starts}
 use Rattle.pg_lexer.specs.Signs.{sign_of}
-use Rattle.pg_lexer.specs.Lexemes.{Lexeme, word, digits, text, unended, mark, quoted, Spells, IsLongest, NoLexeme}
-use Rattle.pg_lexer.specs.Found.{begins_no_other, longest_sign, sized}
+use Rattle.pg_lexer.specs.Lexemes.{Lexeme, word, digits, text, unended, mark, quoted_form, Spells, IsLongest, NoLexeme}
+use Rattle.pg_lexer.specs.Found.{begins_no_other, longest_sign, with_length}
 use Rattle.pg_lexer.proofs.Lists.{passes, stops, fails, prefix_len_more}
 use Rattle.pg_lexer.proofs.Exact.{lexeme_of, exact, long_sign, lexeme_of_nothing, lexeme_of_word, lexeme_of_digits, lexeme_of_sign, lexeme_of_longer}
 
@@ -53,17 +53,17 @@ digits_longest (b ∷ bs) n starts e =
     (and_from (is_ascii_digit b) _ starts (passes is_ascii_digit bs))
     (run_ends is_ascii_digit b bs digits (λ xs. lexeme_of_digits b xs starts)))
 
-pub text_longest : (value after : List ℕ) → (Starts (λ b. eqb b 39) after → ⊥) → IsLongest (text value) (39 ∷ (quoted value ++ 39 ∷ [])) after
+pub text_longest : (value after : List ℕ) → (Starts (λ b. eqb b 39) after → ⊥) → IsLongest (text value) (39 ∷ (quoted_form value ++ 39 ∷ [])) after
 text_longest value after ended =
-    longest_where (text value) (39 ∷ (quoted value ++ 39 ∷ [])) after refl
+    longest_where (text value) (39 ∷ (quoted_form value ++ 39 ∷ [])) after refl
     (λ c more rest split.
     let other : eqb c 39 ≡ false = false_from_ne_true _ (λ quote. ended (rw split quote)) in
-    ap (λ t. lexeme_of (39 ∷ t)) (append_assoc (quoted value) (39 ∷ []) (c ∷ more)) ∙ lexeme_of_longer value c more other)
+    ap (λ t. lexeme_of (39 ∷ t)) (append_assoc (quoted_form value) (39 ∷ []) (c ∷ more)) ∙ lexeme_of_longer value c more other)
 
-pub unended_longest : (value : List ℕ) → IsLongest (unended value) (39 ∷ quoted value) []
-unended_longest value = longest_where (unended value) (39 ∷ quoted value) [] refl (λ c more rest split. cc)
+pub unended_longest : (value : List ℕ) → IsLongest (unended value) (39 ∷ quoted_form value) []
+unended_longest value = longest_where (unended value) (39 ∷ quoted_form value) [] refl (λ c more rest split. cc)
 
-sized_parts : (s sign : Sign) (m n : ℕ) → sized m (Some s) ≡ Some (sign, n) → (s ≡ sign) × (m ≡ n)
+sized_parts : (s sign : Sign) (m n : ℕ) → with_length m (Some s) ≡ Some (sign, n) → (s ≡ sign) × (m ≡ n)
 sized_parts s sign m n e = let first : Sign × ℕ = (s, m) in let second : Sign × ℕ = (sign, n) in let pair : first ≡ second = cc in (ap (λ (p : Sign × ℕ). p.0) pair, ap (λ (p : Sign × ℕ). p.1) pair)
 
 -- the longest sign, by the bytes that are left
@@ -73,7 +73,7 @@ unfolding longest_sign
 sign_longest [] sign n starts e = absurd starts
 sign_longest (a ∷ []) sign n starts e = one (sign_of (a ∷ [])) refl e
   where
-    one : (o : Option Sign) → sign_of (a ∷ []) ≡ o → sized 1 o ≡ Some (sign, n) → (n ≤ 1) × IsLongest (mark sign) (take n (a ∷ [])) (drop n (a ∷ []))
+    one : (o : Option Sign) → sign_of (a ∷ []) ≡ o → with_length 1 o ≡ Some (sign, n) → (n ≤ 1) × IsLongest (mark sign) (take n (a ∷ [])) (drop n (a ∷ []))
     one None is found = cc
     one (Some s) is found =
         let parts = sized_parts s sign 1 n found in let length_is : n ≡ 1 = sym parts.1 in
@@ -81,7 +81,7 @@ sign_longest (a ∷ []) sign n starts e = one (sign_of (a ∷ [])) refl e
 sign_longest (a ∷ b ∷ bs) sign n starts e = two (sign_of (a ∷ b ∷ [])) (sign_of (a ∷ [])) refl refl e
   where
     two : (o p : Option Sign) → sign_of (a ∷ b ∷ []) ≡ o → sign_of (a ∷ []) ≡ p
-        → option_or (sized 2 o) (sized 1 p) ≡ Some (sign, n)
+        → option_or (with_length 2 o) (with_length 1 p) ≡ Some (sign, n)
         → (n ≤ suc (suc (length bs))) × IsLongest (mark sign) (take n (a ∷ b ∷ bs)) (drop n (a ∷ b ∷ bs))
     two (Some s) p is _ found =
         let parts = sized_parts s sign 2 n found in let length_is : n ≡ 2 = sym parts.1 in
@@ -110,7 +110,7 @@ no_sign [] starts e lexeme front after split spelled = absurd starts
 no_sign (a ∷ bs) starts e lexeme [] after split spelled = let something = exact lexeme [] spelled in let nothing = lexeme_of_nothing in cc
 no_sign (a ∷ []) starts e lexeme (c ∷ front) after split spelled = none (sign_of (a ∷ [])) refl e
   where
-    none : (o : Option Sign) → sign_of (a ∷ []) ≡ o → sized 1 o ≡ None → ⊥
+    none : (o : Option Sign) → sign_of (a ∷ []) ≡ o → with_length 1 o ≡ None → ⊥
     none (Some s) is found = cc
     none None is found = one front split spelled
       where
@@ -122,7 +122,7 @@ no_sign (a ∷ []) starts e lexeme (c ∷ front) after split spelled = none (sig
         one (d ∷ more) same spells = cc
 no_sign (a ∷ b ∷ bs) starts e lexeme (c ∷ front) after split spelled = none (sign_of (a ∷ b ∷ [])) (sign_of (a ∷ [])) refl refl e
   where
-    none : (o p : Option Sign) → sign_of (a ∷ b ∷ []) ≡ o → sign_of (a ∷ []) ≡ p → option_or (sized 2 o) (sized 1 p) ≡ None → ⊥
+    none : (o p : Option Sign) → sign_of (a ∷ b ∷ []) ≡ o → sign_of (a ∷ []) ≡ p → option_or (with_length 2 o) (with_length 1 p) ≡ None → ⊥
     none (Some s) p double single found = cc
     none None (Some s) double single found = cc
     none None None double single found = short front split spelled

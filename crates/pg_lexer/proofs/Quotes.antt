@@ -5,29 +5,29 @@ use Rattle.std.proofs.lemmas.Grind.{flat_map-append}
 use Rattle.std.proofs.lemmas.List.{take_at, drop_at}
 use Rattle.pg_lexer.specs.Bytes.{Starts}
 use Rattle.pg_lexer.specs.Found.{EndsText, Writes, IsEnded}
-use Rattle.pg_lexer.specs.Lexemes.{quoted}
+use Rattle.pg_lexer.specs.Lexemes.{quoted_form}
 
-pub quoted_other : (b : ℕ) (value : List ℕ) → eqb b 39 ≡ false → quoted (b ∷ value) ≡ b ∷ quoted value
-unfolding quoted
-quoted_other b value other = ap (λ front. front ++ quoted value) (cond-false (eqb b 39) (39 ∷ 39 ∷ []) (b ∷ []) other)
+pub quoted_other : (b : ℕ) (value : List ℕ) → eqb b 39 ≡ false → quoted_form (b ∷ value) ≡ b ∷ quoted_form value
+unfolding quoted_form
+quoted_other b value other = ap (λ front. front ++ quoted_form value) (cond-false (eqb b 39) (39 ∷ 39 ∷ []) (b ∷ []) other)
 
-pub quoted_quote : (b : ℕ) (value : List ℕ) → eqb b 39 ≡ true → quoted (b ∷ value) ≡ 39 ∷ 39 ∷ quoted value
-unfolding quoted
-quoted_quote b value quote = ap (λ front. front ++ quoted value) (cond-true (eqb b 39) (39 ∷ 39 ∷ []) (b ∷ []) quote)
+pub quoted_quote : (b : ℕ) (value : List ℕ) → eqb b 39 ≡ true → quoted_form (b ∷ value) ≡ 39 ∷ 39 ∷ quoted_form value
+unfolding quoted_form
+quoted_quote b value quote = ap (λ front. front ++ quoted_form value) (cond-true (eqb b 39) (39 ∷ 39 ∷ []) (b ∷ []) quote)
 
-quoted_append : (xs ys : List ℕ) → quoted (xs ++ ys) ≡ quoted xs ++ quoted ys
-unfolding quoted
+quoted_append : (xs ys : List ℕ) → quoted_form (xs ++ ys) ≡ quoted_form xs ++ quoted_form ys
+unfolding quoted_form
 quoted_append xs ys = flat_map-append _ xs ys
 
-quoted_nil : quoted [] ≡ []
-unfolding quoted
+quoted_nil : quoted_form [] ≡ []
+unfolding quoted_form
 quoted_nil = refl
 
 -- one byte of the value more
-pub quoted_push : (value bytes rest : List ℕ) (byte n : ℕ) → Writes rest byte n → bytes ≡ quoted value ++ rest
-    → bytes ≡ quoted (value ++ byte ∷ []) ++ drop n rest
+pub quoted_push : (value bytes rest : List ℕ) (byte n : ℕ) → Writes rest byte n → bytes ≡ quoted_form value ++ rest
+    → bytes ≡ quoted_form (value ++ byte ∷ []) ++ drop n rest
 quoted_push value bytes rest byte n writes e =
-    e ∙ ap (λ r. quoted value ++ r) writes.written ∙ sym (append_assoc (quoted value) (quoted (byte ∷ [])) (drop n rest))
+    e ∙ ap (λ r. quoted_form value ++ r) writes.written ∙ sym (append_assoc (quoted_form value) (quoted_form (byte ∷ [])) (drop n rest))
     ∙ ap (λ q. q ++ drop n rest) (sym (quoted_append value (byte ∷ [])))
 
 pub writes_other : (byte : ℕ) (after : List ℕ) → (byte ≡ 39 → ⊥) → Writes (byte ∷ after) byte 1
@@ -45,22 +45,22 @@ writes_quote byte second after first again = record {
 }
 
 -- where a text ends and the line goes on, the closing quote comes next
-pub ended_body : (bytes value rest : List ℕ) (n : ℕ) → bytes ≡ quoted value ++ rest → EndsText rest → 0 < length rest → n ≡ length bytes - length rest + 1
+pub ended_body : (bytes value rest : List ℕ) (n : ℕ) → bytes ≡ quoted_form value ++ rest → EndsText rest → 0 < length rest → n ≡ length bytes - length rest + 1
     → IsEnded bytes value n
 ended_body bytes value [] n e ends some is = absurd (omega arith)
 ended_body bytes value (b ∷ after) n e ends some is =
-    let sum : length bytes ≡ length (quoted value) + suc (length after) = ap length e ∙ simp length-append in
-    let size : n ≡ length (quoted value ++ 39 ∷ []) = simp length-append (omega arith) in
-    let whole : bytes ≡ (quoted value ++ 39 ∷ []) ++ after =
-    e ∙ ap (λ q. quoted value ++ q ∷ after) ends.0 ∙ sym (append_assoc (quoted value) (39 ∷ []) after) in
-    let front : take n bytes ≡ quoted value ++ 39 ∷ [] = ap (take n) whole ∙ take_at (quoted value ++ 39 ∷ []) after n (sym size) in
-    let behind : drop n bytes ≡ after = ap (drop n) whole ∙ drop_at (quoted value ++ 39 ∷ []) after n (sym size) in
+    let sum : length bytes ≡ length (quoted_form value) + suc (length after) = ap length e ∙ simp length-append in
+    let size : n ≡ length (quoted_form value ++ 39 ∷ []) = simp length-append (omega arith) in
+    let whole : bytes ≡ (quoted_form value ++ 39 ∷ []) ++ after =
+    e ∙ ap (λ q. quoted_form value ++ q ∷ after) ends.0 ∙ sym (append_assoc (quoted_form value) (39 ∷ []) after) in
+    let front : take n bytes ≡ quoted_form value ++ 39 ∷ [] = ap (take n) whole ∙ take_at (quoted_form value ++ 39 ∷ []) after n (sym size) in
+    let behind : drop n bytes ≡ after = ap (drop n) whole ∙ drop_at (quoted_form value ++ 39 ∷ []) after n (sym size) in
     record { within = omega arith; written = front; ended = rw behind ends.1 }
 
 -- the bytes behind an opening quote come to a closing one, or never do
 pub data Split : List ℕ → Type 0 where
-  closed : {bytes : List ℕ} (value after : List ℕ) → bytes ≡ quoted value ++ 39 ∷ after → (Starts (λ b. eqb b 39) after → ⊥) → Split bytes
-  never : {bytes : List ℕ} (value : List ℕ) → bytes ≡ quoted value → Split bytes
+  closed : {bytes : List ℕ} (value after : List ℕ) → bytes ≡ quoted_form value ++ 39 ∷ after → (Starts (λ b. eqb b 39) after → ⊥) → Split bytes
+  never : {bytes : List ℕ} (value : List ℕ) → bytes ≡ quoted_form value → Split bytes
 
 more_other : (b : ℕ) (bs : List ℕ) → eqb b 39 ≡ false → Split bs → Split (b ∷ bs)
 more_other b bs other (closed value after is ended) =
@@ -87,5 +87,5 @@ split (b ∷ c ∷ bs) = ⊎_elim
     (λ other. more_other b (c ∷ bs) other (split (c ∷ bs)))
     (cases_Bool (eqb b 39))
 
-pub quoted_nothing : (bytes : List ℕ) → bytes ≡ quoted [] ++ bytes
+pub quoted_nothing : (bytes : List ℕ) → bytes ≡ quoted_form [] ++ bytes
 quoted_nothing bytes = ap (λ q. q ++ bytes) (sym quoted_nil)

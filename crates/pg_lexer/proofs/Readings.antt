@@ -12,7 +12,7 @@ use Rattle.pg_lexer.specs.declared.token.Spanned.{Spanned}
 use Rattle.pg_lexer.specs.declared.token.Token.{Token}
 use Rattle.pg_lexer.specs.Found.{begins_no_other, longest_sign}
 use Rattle.pg_lexer.specs.Bytes.{is_blank, begins_word, in_word, Starts}
-use Rattle.pg_lexer.specs.Lexemes.{Lexeme, word, digits, text, unended, mark, quoted, Spells, IsLongest, NoLexeme, meaning, IsCut, IsBad}
+use Rattle.pg_lexer.specs.Lexemes.{Lexeme, word, digits, text, unended, mark, quoted_form, Spells, IsLongest, NoLexeme, meaning, IsCut, IsBad}
 use Rattle.pg_lexer.specs.Reading.{Begins, BeginsWith, BeginsBad, IsRead, IsReadFrom}
 use Rattle.pg_lexer.proofs.Lists.{aligned, passes, stops}
 use Rattle.pg_lexer.proofs.Exact.{exact, shown}
@@ -216,9 +216,9 @@ lexeme_at (b ∷ bs) seen = ⊎_elim
     text_at : Split bs → eqb b 39 ≡ true
         → ((lexeme : Lexeme) × (front : List ℕ) × (after : List ℕ) × (b ∷ bs ≡ front ++ after) × IsLongest lexeme front after) ⊎ NoLexeme (b ∷ bs)
     text_at (closed value after is ended) quote =
-        inl (text value, 39 ∷ (quoted value ++ 39 ∷ []), after, (λ i. eqb-true b 39 quote i ∷ (is ∙ sym (append_assoc (quoted value) (39 ∷ []) after)) i), text_longest value after ended)
+        inl (text value, 39 ∷ (quoted_form value ++ 39 ∷ []), after, (λ i. eqb-true b 39 quote i ∷ (is ∙ sym (append_assoc (quoted_form value) (39 ∷ []) after)) i), text_longest value after ended)
     text_at (never value is) quote =
-        inl (unended value, 39 ∷ quoted value, [], (λ i. eqb-true b 39 quote i ∷ (is ∙ sym (append-nil (quoted value))) i), unended_longest value)
+        inl (unended value, 39 ∷ quoted_form value, [], (λ i. eqb-true b 39 quote i ∷ (is ∙ sym (append-nil (quoted_form value))) i), unended_longest value)
 
     sign_at : (o : Option (Sign × ℕ)) → longest_sign (b ∷ bs) ≡ o → begins_no_other b ≡ true
         → ((lexeme : Lexeme) × (front : List ℕ) × (after : List ℕ) × (b ∷ bs ≡ front ++ after) × IsLongest lexeme front after) ⊎ NoLexeme (b ∷ bs)

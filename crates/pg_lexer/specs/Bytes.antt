@@ -19,10 +19,12 @@ begins_word b = is_ascii_alphabetic b || b == 95
 abbrev pub in_word : ℕ → Bool
 in_word b = is_ascii_alphanumeric b || b == 95
 
+-- a word: letters, digits and `_`, no digit first
 abbrev pub is_word : List ℕ → Bool
 is_word [] = false
 is_word (b ∷ bs) = begins_word b && list_all in_word bs
 
+-- a number: digits, at least one
 abbrev pub is_number : List ℕ → Bool
 is_number [] = false
 is_number (b ∷ bs) = is_ascii_digit b && list_all is_ascii_digit bs

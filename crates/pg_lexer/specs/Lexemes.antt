@@ -21,15 +21,15 @@ pub data Lexeme : Type 0 where
   mark : Sign → Lexeme
 
 -- the value of a text as it is written: each `'` is doubled
-unfoldable pub quoted : List ℕ → List ℕ
-quoted value = flat_map (λ b. if b == 39 then 39 ∷ 39 ∷ [] else b ∷ []) value
+unfoldable pub quoted_form : List ℕ → List ℕ
+quoted_form value = flat_map (λ b. if b == 39 then 39 ∷ 39 ∷ [] else b ∷ []) value
 
 -- the bytes that spell a lexeme; 39 is `'`
 abbrev pub Spells : Lexeme → List ℕ → Type 0
 Spells word bytes = is_word bytes ≡ true
 Spells digits bytes = is_number bytes ≡ true
-Spells (text value) bytes = bytes ≡ 39 ∷ (quoted value ++ 39 ∷ [])
-Spells (unended value) bytes = bytes ≡ 39 ∷ quoted value
+Spells (text value) bytes = bytes ≡ 39 ∷ (quoted_form value ++ 39 ∷ [])
+Spells (unended value) bytes = bytes ≡ 39 ∷ quoted_form value
 Spells (mark sign) bytes = sign_of bytes ≡ Some sign
 
 -- the front spells the lexeme, and no longer front spells any lexeme

@@ -260,8 +260,8 @@ fn count_tokens(alloc: Global, piece: &[u8], times: u32) -> Result<Option<usize>
     Ok(lexed.fault.is_none().then_some(count))
 }
 
-/// The longest lines, of brackets, minus signs, operators, words and list items, are read in a stack
-/// of 128 KiB.
+/// The longest lines, of brackets, minus signs, operators, words and list items, are read in a
+/// stack of 128 KiB.
 #[test]
 fn long_lines_need_little_stack(rt: HostRuntime) -> Result<(), AllocError> {
     let rows: [(&[u8], u32, usize); 7] = [

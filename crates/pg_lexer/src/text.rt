@@ -39,6 +39,7 @@ impl NameText {
         Ok(NameText { bytes })
     }
 
+    /// The bytes of the name.
     pub fn as_bytes(&self) -> &[u8]
         ensures value { result.now ≡ self.now }
         ensures name { IsTrue (is_name self.now) }
@@ -46,6 +47,7 @@ impl NameText {
         self.bytes.as_slice()
     }
 
+    /// The same name once more; `AllocError` where there is no room for it.
     pub fn copy(&self, alloc: Global) -> Result<NameText, AllocError>
         ensures { IfOk result (λ name. name ≡ self.now) }
     {
@@ -100,6 +102,7 @@ impl QuotedText {
         QuotedText { bytes }
     }
 
+    /// The bytes of the text, each `''` as one `'`.
     pub fn as_bytes(&self) -> &[u8]
         ensures value { result.now ≡ self.now }
         ensures text { IsTrue (is_text self.now) }
@@ -107,6 +110,7 @@ impl QuotedText {
         self.bytes.as_slice()
     }
 
+    /// The same text once more; `AllocError` where there is no room for it.
     pub fn copy(&self, alloc: Global) -> Result<QuotedText, AllocError>
         ensures { IfOk result (λ text. text ≡ self.now) }
     {

@@ -62,11 +62,11 @@ pub struct Tokens {
 impl Model for Tokens {
     ghost use Rattle.std.specs.Prelude.{◌≡◌, List, length};
     ghost use Rattle.pg_lexer.specs.declared.token.Spanned.{Spanned};
-    ghost use Rattle.pg_lexer.specs.Spans.{spanned};
+    ghost use Rattle.pg_lexer.specs.Spans.{tokens_with_spans};
 
     ghost Value = { List Spanned };
 
-    ghost view = { λ t. spanned t.tokens.items t.spans.items };
+    ghost view = { λ t. tokens_with_spans t.tokens.items t.spans.items };
 
     ghost invariant = { λ t. length t.tokens.items ≡ length t.spans.items };
 }

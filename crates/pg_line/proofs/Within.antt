@@ -6,7 +6,7 @@ use Rattle.std.specs.List.{list_all}
 use Rattle.std.proofs.lemmas.Bool.{and_from, and_parts, leb-true}
 use Rattle.pg_lexer.specs.Bytes.{begins_word, in_word, is_printed, is_text, is_word}
 use Rattle.pg_lexer.specs.Keywords.{keyword_of}
-use Rattle.pg_lexer.specs.Lexemes.{Lexeme, Spells, digits, mark, meaning, number_of, quoted, text, text_token, unended, word, word_token}
+use Rattle.pg_lexer.specs.Lexemes.{Lexeme, Spells, digits, mark, meaning, number_of, quoted_form, text, text_token, unended, word, word_token}
 use Rattle.pg_lexer.specs.Reading.{IsRead}
 use Rattle.pg_lexer.specs.declared.keyword.Keyword.{Keyword}
 use Rattle.pg_lexer.specs.declared.token.BadPlace.{BadPlace}
@@ -22,7 +22,7 @@ use Rattle.pg_parse_stmt.proofs.KeepingSentences.{each_statement_is_within}
 use Rattle.pg_line.specs.declared.form.LineForm.{LineForm}
 use Rattle.pg_line.specs.declared.form.PlaceFault.{PlaceFault}
 use Rattle.pg_line.specs.declared.form.SessionName.{SessionName}
-use Rattle.pg_line.specs.Forms.{Outline, IsFormBy, comment, command, behind_first, cut, given, go, label_of, named, outline, pause, pause_at, setup, statement, unknown}
+use Rattle.pg_line.specs.Forms.{Outline, IsFormBy, comment, command, behind_first, cut, given, go, label_of, form_named, outline, pause, pause_at, setup, statement, unknown}
 use Rattle.pg_line.specs.Sessions.{is_session, session_named, session_of}
 use Rattle.pg_line.specs.Statements.{IsOutcome, IsStatementAt}
 use Rattle.pg_line.specs.Words.{Word, is_the, words_of}
@@ -39,12 +39,12 @@ word_is name None t is free e = rw (← e) (and_from _ _ is (rw free refl))
 word_is name (Some keyword) t is free e = rw (← e) refl
 
 -- a text is one of printed bytes
-text_is : (place : ℕ) (value front : List ℕ) (t : Token) (first : Option ℕ) → front ≡ 39 ∷ (quoted value ++ 39 ∷ []) →
+text_is : (place : ℕ) (value front : List ℕ) (t : Token) (first : Option ℕ) → front ≡ 39 ∷ (quoted_form value ++ 39 ∷ []) →
     nat_le (length value) 4096 ≡ true → position (λ b. not (is_printed b)) front ≡ first →
     text_token place value first ≡ Ok t → is_token t ≡ true
 unfolding is_text
 text_is place value front t None spelled short none e =
-    let printed : list_all is_printed (39 ∷ (quoted value ++ 39 ∷ [])) ≡ true = rw spelled at (none_fails is_printed front none) in
+    let printed : list_all is_printed (39 ∷ (quoted_form value ++ 39 ∷ [])) ≡ true = rw spelled at (none_fails is_printed front none) in
     rw (← same_token _ _ e) (and_from _ _ (printed_value value (39 ∷ []) printed) short)
 text_is place value front t (Some before) spelled short some e = absurd (cc)
 
@@ -131,13 +131,13 @@ either true x y one other = one
 either false x y one other = other
 
 by_session : (form : SessionName → Outline) → ((session : SessionName) → is_named session ≡ true → has_name (form session) ≡ true) →
-    (spelled : Word) (found : Option SessionName) → session_named spelled ≡ found → has_name (named form found) ≡ true
+    (spelled : Word) (found : Option SessionName) → session_named spelled ≡ found → has_name (form_named form found) ≡ true
 by_session form keeps spelled None is = refl
 by_session form keeps spelled (Some session) is = keeps session (session_is spelled (Some session) is session refl)
 
 statement_has : (spelled : Word) (from : ℕ) → has_name (statement spelled from) ≡ true
 statement_has spelled from =
-    either (is_the (codes "setup") spelled) (setup from) (named (λ session. given session from) (session_named spelled)) refl
+    either (is_the (codes "setup") spelled) (setup from) (form_named (λ session. given session from) (session_named spelled)) refl
     (by_session (λ session. given session from) (λ session is. is) spelled (session_named spelled) refl)
 
 pause_has : (spelled : Word) (label : Option _) → has_name (pause_at spelled label) ≡ true
@@ -149,10 +149,10 @@ command_has : (words : List Word) → has_name (command words) ≡ true
 command_has [] = refl
 command_has (verb ∷ []) = refl
 command_has (verb ∷ spelled ∷ []) =
-    either (is_the (codes "go") verb) (named go (session_named spelled))
-    (cond (is_the (codes "cut") verb) (named cut (session_named spelled)) unknown)
+    either (is_the (codes "go") verb) (form_named go (session_named spelled))
+    (cond (is_the (codes "cut") verb) (form_named cut (session_named spelled)) unknown)
     (by_session go (λ session is. is) spelled (session_named spelled) refl)
-    (either (is_the (codes "cut") verb) (named cut (session_named spelled)) unknown
+    (either (is_the (codes "cut") verb) (form_named cut (session_named spelled)) unknown
     (by_session cut (λ session is. is) spelled (session_named spelled) refl) refl)
 command_has (verb ∷ spelled ∷ link ∷ []) = refl
 command_has (verb ∷ spelled ∷ link ∷ label ∷ []) =

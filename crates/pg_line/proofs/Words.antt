@@ -3,7 +3,7 @@ use Rattle.std.proofs.Common.{◌≡◌, ◌<◌, ◌+◌, ◌==◌, ◌&&◌, �
 use Rattle.std.specs.List.{prefix_len}
 use Rattle.std.proofs.lemmas.Bool.{eqb-true}
 use Rattle.pg_lexer.specs.Bytes.{in_word, is_blank}
-use Rattle.pg_line.specs.Words.{Word, begins_blank, glued, words_from}
+use Rattle.pg_line.specs.Words.{Word, begins_blank, with_first_byte, words_from}
 
 word_not_blank : (b : ℕ) → in_word b ≡ true → is_blank b ≡ false
 word_not_blank b word = at (b == 9) (b == 32) refl refl
@@ -25,7 +25,7 @@ run_words : (at b : ℕ) (bytes : List ℕ) → in_word b ≡ true →
 run_words at b [] word = one (is_blank b) (word_not_blank b word)
   where
     one : (blank : Bool) → blank ≡ false →
-        cond blank [] (cond (in_word b && false) (glued b at []) (the_word (b ∷ []) at ∷ [])) ≡ the_word (b ∷ []) at ∷ []
+        cond blank [] (cond (in_word b && false) (with_first_byte b at []) (the_word (b ∷ []) at ∷ [])) ≡ the_word (b ∷ []) at ∷ []
     one true e = absurd (cc)
     one false e = rw word refl
 run_words at b (c ∷ bytes) word =
@@ -35,7 +35,7 @@ run_words at b (c ∷ bytes) word =
     more : (words : List Word) (blank here next : Bool) (k : ℕ) → blank ≡ false → here ≡ true →
         words ≡ words_from (at + 1) (c ∷ bytes) →
         (next ≡ true → words ≡ the_word (c ∷ take k bytes) (at + 1) ∷ words_from (at + 1 + 1 + k) (drop k bytes)) →
-        cond blank words (cond (here && next) (glued b at words) (the_word (b ∷ []) at ∷ words))
+        cond blank words (cond (here && next) (with_first_byte b at words) (the_word (b ∷ []) at ∷ words))
         ≡ the_word (b ∷ take (cond next (1 + k) 0) (c ∷ bytes)) at
         ∷ words_from (at + 1 + cond next (1 + k) 0) (drop (cond next (1 + k) 0) (c ∷ bytes))
     more words true here next k e w is rest = absurd (cc)

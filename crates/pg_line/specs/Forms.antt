@@ -34,25 +34,25 @@ pub data Outline : Type 0 where
   unknown : Outline
 
 -- a form with its session, where a word names one
-abbrev pub named : (SessionName → Outline) → Option SessionName → Outline
-named form None = unknown
-named form (Some session) = form session
+abbrev pub form_named : (SessionName → Outline) → Option SessionName → Outline
+form_named form None = unknown
+form_named form (Some session) = form session
 
 -- `setup: STATEMENT` or `SESSION: STATEMENT`, by the word before the colon and the place behind the colon
 abbrev pub statement : Word → ℕ → Outline
 statement word from =
-    if is_the (codes "setup") word then setup from else named (λ session. given session from) (session_named word)
+    if is_the (codes "setup") word then setup from else form_named (λ session. given session from) (session_named word)
 
 -- the pause of a session at a label
 abbrev pub pause_at : Word → Option Label → Outline
 pause_at word None = unknown
-pause_at word (Some label) = named (λ session. pause session label) (session_named word)
+pause_at word (Some label) = form_named (λ session. pause session label) (session_named word)
 
 -- `go SESSION`, `cut SESSION` or `pause SESSION at LABEL`
 abbrev pub command : List Word → Outline
 command (verb ∷ word ∷ []) =
-    if is_the (codes "go") verb then named go (session_named word)
-    else (if is_the (codes "cut") verb then named cut (session_named word) else unknown)
+    if is_the (codes "go") verb then form_named go (session_named word)
+    else (if is_the (codes "cut") verb then form_named cut (session_named word) else unknown)
 command (verb ∷ word ∷ link ∷ label ∷ []) =
     if is_the (codes "pause") verb && is_the (codes "at") link then pause_at word (label_of label.text) else unknown
 command _ = unknown

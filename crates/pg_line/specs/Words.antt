@@ -28,9 +28,9 @@ continues_word [] = false
 continues_word (b ∷ bytes) = in_word b
 
 -- the words with one byte more in front of the first, which stands at this place
-abbrev pub glued : ℕ → ℕ → List Word → List Word
-glued b at [] = record { text = b ∷ []; place = at } ∷ []
-glued b at (word ∷ words) = record { text = b ∷ word.text; place = at } ∷ words
+abbrev pub with_first_byte : ℕ → ℕ → List Word → List Word
+with_first_byte b at [] = record { text = b ∷ []; place = at } ∷ []
+with_first_byte b at (word ∷ words) = record { text = b ∷ word.text; place = at } ∷ words
 
 -- the words of the bytes that stand from a place on: each longest run of letters, digits and `_`, and each other byte
 -- by itself; tabs and spaces stand between words and belong to none
@@ -38,7 +38,7 @@ abbrev pub words_from : ℕ → List ℕ → List Word
 words_from at [] = []
 words_from at (b ∷ bytes) =
     if is_blank b then words_from (at + 1) bytes
-    else (if in_word b && continues_word bytes then glued b at (words_from (at + 1) bytes)
+    else (if in_word b && continues_word bytes then with_first_byte b at (words_from (at + 1) bytes)
     else record { text = b ∷ []; place = at } ∷ words_from (at + 1) bytes)
 
 -- the words of a line

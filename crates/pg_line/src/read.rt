@@ -10,7 +10,8 @@ use crate::statement::statement_at;
 use crate::word::{Piece, next_word};
 use std::alloc::{AllocError, Global};
 
-/// What a line says whose first word has a colon behind it; what stands behind the colon begins at `from`.
+/// What a line says whose first word has a colon behind it; what stands behind the colon begins at
+/// `from`.
 #[tactic(auto, using(crate::proofs::Forms::given_says))]
 fn statement(
     alloc: Global,
@@ -105,8 +106,8 @@ fn command(
     pause(alloc, word, label)
 }
 
-/// What a line of a script says, behind the header line, in a version of the language; the line stands here without its
-/// LF and CR. No form is answered for want of memory alone.
+/// What a line of a script says, behind the header line, in a version of the language; the line
+/// stands here without its LF and CR. No form is answered for want of memory alone.
 pub fn read_line(alloc: Global, version: u32, line: &[u8]) -> Result<LineForm, AllocError>
     requires { length line.now ≤ 1048576 }
     ensures { IfOk result (IsFormOf version line.now) }

@@ -1,7 +1,7 @@
 //! Lines with their forms, worked out from the rules by hand.
 //!
-//! A table writes a session with its place as `a@1`, and a statement by its first words or its fault. It is a text of one
-//! row a line: tables of tuples take many times as long to prove.
+//! A table writes a session with its place as `a@1`, and a statement by its first words or its
+//! fault. It is a text of one row a line: tables of tuples take many times as long to prove.
 use super::*;
 use pg_parse_stmt::StmtTree;
 use std::alloc::{AllocError, Global};

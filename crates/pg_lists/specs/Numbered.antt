@@ -4,23 +4,23 @@ use Rattle.std.specs.Prelude.{ℕ, zero, suc, List, Option, None, slice_get, sli
 use Rattle.std.specs.Option.{option_map_or}
 
 -- the item of that number, if there is one
-abbrev pub numbered : {X : Type 0} → List X → ℕ → Option X
-numbered items number = slice_get items number
+abbrev pub item_at : {X : Type 0} → List X → ℕ → Option X
+item_at items number = slice_get items number
 
 -- the same, where the first item has the number 1
-abbrev pub numbered_from_one : {X : Type 0} → List X → ℕ → Option X
-numbered_from_one items zero = None
-numbered_from_one items (suc before) = numbered items before
+abbrev pub nth_item : {X : Type 0} → List X → ℕ → Option X
+nth_item items zero = None
+nth_item items (suc before) = item_at items before
 
 -- the items, where the one of that number is now as given
-abbrev pub replaced : {X : Type 0} → List X → ℕ → X → List X
-replaced items number item = slice_set items number item
+abbrev pub with_item : {X : Type 0} → List X → ℕ → X → List X
+with_item items number item = slice_set items number item
 
 -- the items, where the one of that number, if there is one, is now as `change` makes it
-abbrev pub changed : {X : Type 0} → (X → X) → List X → ℕ → List X
-changed change items number = option_map_or (λ item. replaced items number (change item)) (numbered items number) items
+abbrev pub with_changed_item : {X : Type 0} → (X → X) → List X → ℕ → List X
+with_changed_item change items number = option_map_or (λ item. with_item items number (change item)) (item_at items number) items
 
 -- the same, where the first item has the number 1
-abbrev pub changed_from_one : {X : Type 0} → (X → X) → List X → ℕ → List X
-changed_from_one change items zero = items
-changed_from_one change items (suc before) = changed change items before
+abbrev pub with_changed_nth_item : {X : Type 0} → (X → X) → List X → ℕ → List X
+with_changed_nth_item change items zero = items
+with_changed_nth_item change items (suc before) = with_changed_item change items before

@@ -4,7 +4,8 @@ use crate::Items;
 
 /// A value that can be compared with another without taking memory.
 ///
-/// Unlike `PartialEq`, the answer is true exactly where the two are equal all the way down, as contracts see them.
+/// Unlike `PartialEq`, the answer is true exactly where the two are equal all the way down, as
+/// contracts see them.
 pub trait IsSame {
     /// Whether the two are the same.
     fn is_same(&self, other: &Self) -> bool

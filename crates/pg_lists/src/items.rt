@@ -1,6 +1,6 @@
 ghost use Rattle.std.specs.Prelude.{◌≡◌, ◌↔◌, ◌<◌, ◌++◌, ◌∷◌, [], IsTrue, MatchOption, OnErr, OnOk, length};
 ghost use Rattle.std.specs.Option.{option_copied, option_copied_mut};
-ghost use Rattle.pg_lists.specs.Numbered.{numbered};
+ghost use Rattle.pg_lists.specs.Numbered.{item_at};
 
 use crate::TryCopy;
 use std::alloc::{AllocError, Global};
@@ -68,7 +68,7 @@ impl<T> Items<T> {
 
     /// The item of a number, counted from 0, or `None` past the end.
     pub fn get(&self, number: usize) -> Option<&T>
-        ensures { option_copied result ≡ numbered self.now number }
+        ensures { option_copied result ≡ item_at self.now number }
     {
         self.items.get(number)
     }
@@ -77,7 +77,7 @@ impl<T> Items<T> {
     pub fn item_mut(&mut self, number: usize) -> &mut T
         requires { number < length self.old }
         ensures* writes_back { sem 𝓛 (LendsItem T.row self.entry number result) }
-        ensures value { numbered self.old number ≡ Some result.now }
+        ensures value { item_at self.old number ≡ Some result.now }
     {
         &mut self.items[number]
     }
@@ -85,7 +85,7 @@ impl<T> Items<T> {
     /// The item of a number, counted from 0, to be changed where it stands, or `None` past the end.
     pub fn get_mut(&mut self, number: usize) -> Option<&mut T>
         ensures* writes_back { sem 𝓛 (LendsItemIf T.row self.entry number result) }
-        ensures value { option_copied_mut result ≡ numbered self.old number }
+        ensures value { option_copied_mut result ≡ item_at self.old number }
     {
         self.items.get_mut(number)
     }
@@ -100,14 +100,16 @@ impl<T> Items<T> {
 
     /// Takes the last item off, and takes no memory.
     pub fn pop(&mut self) -> Option<T>
-        ensures { MatchOption result ((self.old ≡ []) × (self.new ≡ [])) (λ last. self.old ≡ self.new ++ last ∷ []) }
+        ensures { MatchOption result ((self.old ≡ []) × (self.new ≡ []))
+            (λ last. self.old ≡ self.new ++ last ∷ []) }
     {
         self.items.pop()
     }
 }
 
 impl<T: Drop> Items<T> {
-    /// Puts an item behind the last, or refuses for want of memory alone and leaves the list as it was.
+    /// Puts an item behind the last, or refuses for want of memory alone and leaves the list as it
+    /// was.
     pub fn push(&mut self, item: T) -> Result<(), AllocError>
         ensures ok { OnOk result (self.new ≡ self.old ++ item ∷ []) }
         ensures err { OnErr result (self.new ≡ self.old) }

@@ -1,4 +1,5 @@
-//! Lists that contracts see as what they hold, exact copies that may want memory, and comparisons that want none.
+//! Lists that contracts see as what they hold, exact copies that may want memory, and comparisons
+//! that want none.
 #![tactic(auto)]
 
 mod is_same;

@@ -24,24 +24,26 @@ error_state error.BigRange = codes "22003"
 error_state error.ZeroDivisor = codes "22012"
 
 -- a name between "
-abbrev pub named : List ℕ → List ℕ
-named name = codes "\"" ++ name ++ codes "\""
+abbrev pub quoted_name : List ℕ → List ℕ
+quoted_name name = codes "\"" ++ name ++ codes "\""
 
+-- what there is too much of
 abbrev pub counted_text : Counted → List ℕ
 counted_text counted.Tables = codes "tables"
 counted_text counted.Columns = codes "columns"
 
+-- the text of each error
 abbrev pub error_text : SqlError → List ℕ
 error_text error.Aborted = codes "current transaction is aborted, commands ignored until end of transaction block"
-error_text (error.NoRelation name) = codes "relation " ++ named name ++ codes " does not exist"
-error_text (error.SameAlias name) = codes "table name " ++ named name ++ codes " specified more than once"
-error_text (error.NoColumn name) = codes "column " ++ named name ++ codes " does not exist"
-error_text (error.ColumnTwice name) = codes "column " ++ named name ++ codes " specified more than once"
-error_text (error.Ambiguous name) = codes "column reference " ++ named name ++ codes " is ambiguous"
+error_text (error.NoRelation name) = codes "relation " ++ quoted_name name ++ codes " does not exist"
+error_text (error.SameAlias name) = codes "table name " ++ quoted_name name ++ codes " specified more than once"
+error_text (error.NoColumn name) = codes "column " ++ quoted_name name ++ codes " does not exist"
+error_text (error.ColumnTwice name) = codes "column " ++ quoted_name name ++ codes " specified more than once"
+error_text (error.Ambiguous name) = codes "column reference " ++ quoted_name name ++ codes " is ambiguous"
 error_text error.WrongCount = codes "wrong number of expressions"
 error_text error.NoOperator = codes "operator or function does not take these kinds"
 error_text error.WrongKind = codes "kinds do not fit"
-error_text (error.RelationExists name) = codes "relation " ++ named name ++ codes " already exists"
+error_text (error.RelationExists name) = codes "relation " ++ quoted_name name ++ codes " already exists"
 error_text (error.TooMany counted) = codes "too many " ++ counted_text counted
 error_text error.TooLong = codes "text longer than 4096 bytes"
 error_text error.IntRange = codes "integer out of range"

@@ -1,7 +1,7 @@
 -- Expressions whose columns exist and whose kinds fit, over sources of which the kinds of the columns are known.
 use Rattle.std.specs.Prelude.{ℕ, Bool, true, false, ◌&&◌, nat_le, nat_lt, List, length, map, Option, Some, None, Result, Ok, Err}
 use Rattle.std.specs.Option.{option_map_or}
-use Rattle.pg_lists.specs.Numbered.{numbered}
+use Rattle.pg_lists.specs.Numbered.{item_at}
 use Rattle.pg_values.specs.declared.value.Kind.{Kind}
 use Rattle.pg_values.specs.declared.value.Kind.TheVariants as kind
 use Rattle.pg_exprs.specs.declared.kinds.KindFault.{KindFault}
@@ -16,7 +16,7 @@ kinds_of columns = map (λ column. Some column.kind) columns
 
 -- there is a column of that number in the source of that number
 abbrev pub has_column : List (List (Option Kind)) → ℕ → ℕ → Bool
-has_column kinds source number = option_map_or (λ columns. nat_lt number (length columns)) (numbered kinds source) false
+has_column kinds source number = option_map_or (λ columns. nat_lt number (length columns)) (item_at kinds source) false
 
 -- each column that the expression names exists
 abbrev pub has_columns : List (List (Option Kind)) → Tree → Bool

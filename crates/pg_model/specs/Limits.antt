@@ -11,6 +11,7 @@ most_sessions = 32
 abbrev pub most_tables : ℕ
 most_tables = 64
 
+-- columns of one table
 abbrev pub most_columns : ℕ
 most_columns = 64
 

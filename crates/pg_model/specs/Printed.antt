@@ -1,6 +1,6 @@
 -- The text of a run, and the text of a journal.
 use Rattle.std.specs.Prelude.{ℕ, List, [], ◌∷◌, ◌++◌, codes, decimal, flat_map, map, unwrap_or}
-use Rattle.pg_lists.specs.Numbered.{numbered}
+use Rattle.pg_lists.specs.Numbered.{item_at}
 use Rattle.pg_values.specs.declared.value.Value.{Value}
 use Rattle.pg_model.specs.declared.catalogue.TableShape.{TableShape}
 use Rattle.pg_model.specs.declared.error.SqlError.{SqlError}
@@ -10,24 +10,25 @@ use Rattle.pg_model.specs.declared.journal.EntryAct.TheVariants as act
 use Rattle.pg_model.specs.declared.journal.Reply.{Reply}
 use Rattle.pg_model.specs.declared.script.Script.{Script}
 use Rattle.pg_model.specs.Errors.{error_state, error_text}
-use Rattle.pg_model.specs.Texts.{ended, row_text, tag_text}
+use Rattle.pg_model.specs.Texts.{with_line_end, row_text, tag_text}
 
 -- the name of the session of that number, and of the table; a number that names none has the empty name
 abbrev pub session_name : Script → ℕ → List ℕ
-session_name script session = unwrap_or (numbered script.sessions session) []
+session_name script session = unwrap_or (item_at script.sessions session) []
 
+-- the name of the table of that number
 abbrev pub table_name : Script → ℕ → List ℕ
-table_name script table = unwrap_or (numbered (map (λ shape. shape.name) script.catalogue) table) []
+table_name script table = unwrap_or (item_at (map (λ shape. shape.name) script.catalogue) table) []
 
 -- a reply: `name> VALUES` for each returned row, then `name: TAG`
 abbrev pub reply_text : List ℕ → Reply → List ℕ
 reply_text name reply =
-    flat_map (λ row. ended (name ++ codes "> " ++ row_text row)) reply.rows
-    ++ ended (name ++ codes ": " ++ tag_text reply.tag)
+    flat_map (λ row. with_line_end (name ++ codes "> " ++ row_text row)) reply.rows
+    ++ with_line_end (name ++ codes ": " ++ tag_text reply.tag)
 
 -- a failure: `name: ERROR STATE: TEXT`
 abbrev pub failure_text : List ℕ → SqlError → List ℕ
-failure_text name error = ended (name ++ codes ": ERROR " ++ error_state error ++ codes ": " ++ error_text error)
+failure_text name error = with_line_end (name ++ codes ": ERROR " ++ error_state error ++ codes ": " ++ error_text error)
 
 -- what an entry prints: a reply or a failure its lines, and any other entry nothing
 abbrev pub act_text : List ℕ → EntryAct → List ℕ
@@ -41,12 +42,13 @@ act_text name (act.Replied reply) = reply_text name reply
 act_text name (act.Failed error) = failure_text name error
 act_text name act.Closed = []
 
+-- the lines that an entry prints
 abbrev pub entry_text : Script → Entry → List ℕ
 entry_text script entry = act_text (session_name script entry.session) entry.act
 
 -- a table: `table NAME`, then a line for each row
 abbrev pub table_text : TableShape → List (List Value) → List ℕ
-table_text shape rows = ended (codes "table " ++ shape.name) ++ flat_map (λ row. ended (row_text row)) rows
+table_text shape rows = with_line_end (codes "table " ++ shape.name) ++ flat_map (λ row. with_line_end (row_text row)) rows
 
 -- the tables of a catalogue, with these rows, in order of declaration
 abbrev pub tables_text : List TableShape → List (List (List Value)) → List ℕ
@@ -77,7 +79,7 @@ act_words script act.Closed = codes "closed"
 
 -- a line of a journal: the session's name and what it did
 abbrev pub entry_line : Script → Entry → List ℕ
-entry_line script entry = ended (session_name script entry.session ++ codes " " ++ act_words script entry.act)
+entry_line script entry = with_line_end (session_name script entry.session ++ codes " " ++ act_words script entry.act)
 
 -- the text of a journal: a line for each entry
 abbrev pub journal_text : Script → List Entry → List ℕ

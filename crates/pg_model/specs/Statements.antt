@@ -2,7 +2,7 @@
 use Rattle.std.specs.Prelude.{ℕ, ◌≡◌, Bool, true, false, ◌&&◌, nat_le, nat_lt, List, [], ◌∷◌, length, map, Option, Some, None}
 use Rattle.std.specs.List.{list_all, All}
 use Rattle.std.specs.Option.{ForSome, option_map_or}
-use Rattle.pg_lists.specs.Numbered.{numbered}
+use Rattle.pg_lists.specs.Numbered.{item_at}
 use Rattle.pg_values.specs.declared.value.Kind.{Kind}
 use Rattle.pg_values.specs.Kind.{kind_of_value}
 use Rattle.pg_exprs.specs.Tree.{Tree}
@@ -43,7 +43,7 @@ is_catalogue catalogue =
 
 -- the table is the catalogue's table of that number
 abbrev pub IsTableOf : List TableShape → NamedTable → Type 0
-IsTableOf catalogue named = numbered catalogue named.table ≡ Some named.shape
+IsTableOf catalogue named = item_at catalogue named.table ≡ Some named.shape
 
 -- the table that a source is
 abbrev pub table_of : Source → Option NamedTable
@@ -57,6 +57,7 @@ IsSource catalogue source = ForSome (table_of source) (IsTableOf catalogue)
 abbrev pub source_kinds : Source → List (Option Kind)
 source_kinds (source_of.Table named) = kinds_of named.shape.columns
 
+-- a condition, where there is one, is a boolean over the columns of the sources
 abbrev pub is_where : List (List (Option Kind)) → Option Tree → Bool
 is_where kinds None = true
 is_where kinds (Some tree) = is_condition kinds tree
@@ -69,7 +70,7 @@ pub record IsSelect (catalogue : List TableShape) (select : Select) : Type 0 whe
 
 -- the kind of the column of that number
 abbrev pub column_kind : List Column → ℕ → Option Kind
-column_kind columns number = option_map_or (λ column. Some column.kind) (numbered columns number) None
+column_kind columns number = option_map_or (λ column. Some column.kind) (item_at columns number) None
 
 -- there is a column of that number, and the expression, which names no column, may be stored there
 abbrev pub is_value_of : List Column → ℕ → Tree → Bool

@@ -8,12 +8,12 @@ use Rattle.pg_model.specs.declared.journal.Tag.{Tag}
 use Rattle.pg_model.specs.declared.journal.Tag.TheVariants as tag
 
 -- each line ends with LF
-abbrev pub ended : List ℕ → List ℕ
-ended line = line ++ 10 ∷ []
+abbrev pub with_line_end : List ℕ → List ℕ
+with_line_end line = line ++ 10 ∷ []
 
 -- a text with each ' doubled
-abbrev pub quoted : List ℕ → List ℕ
-quoted bytes = flat_map (λ byte. if byte == 39 then 39 ∷ 39 ∷ [] else byte ∷ []) bytes
+abbrev pub quoted_form : List ℕ → List ℕ
+quoted_form bytes = flat_map (λ byte. if byte == 39 then 39 ∷ 39 ∷ [] else byte ∷ []) bytes
 
 -- NULL is `null`, a boolean `t` or `f`, a number is in decimal and a text between '
 abbrev pub value_text : Value → List ℕ
@@ -22,12 +22,13 @@ value_text (OfBool true) = codes "t"
 value_text (OfBool false) = codes "f"
 value_text (Int number) = signed_decimal number
 value_text (Big number) = signed_decimal number
-value_text (Text bytes) = 39 ∷ (quoted bytes ++ 39 ∷ [])
+value_text (Text bytes) = 39 ∷ (quoted_form bytes ++ 39 ∷ [])
 
 -- the values of a row, joined by |
 abbrev pub row_text : List Value → List ℕ
 row_text values = join_with_byte 124 (map value_text values)
 
+-- the tag of a reply
 abbrev pub tag_text : Tag → List ℕ
 tag_text tag.Begin = codes "BEGIN"
 tag_text tag.Commit = codes "COMMIT"

@@ -29,7 +29,8 @@ pub struct Check {
 /// The CHECKs of a table, in the order written.
 pub type Checks = Items<Check>;
 
-/// A table as it was declared. Its copies share its columns and CHECKs, so that one takes no more than its name.
+/// A table as it was declared. Its copies share its columns and CHECKs, so that one takes no more
+/// than its name.
 #[derive(Drop)]
 pub struct TableShape {
     pub name: Name,

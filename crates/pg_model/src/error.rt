@@ -9,8 +9,8 @@ pub enum Counted {
     Columns,
 }
 
-/// An error of a statement, in PostgreSQL's terms. Each has a state of five digits and letters and a text,
-/// which `docs/errors.md` lists.
+/// An error of a statement, in PostgreSQL's terms. Each has a state of five digits and letters and
+/// a text, which `docs/errors.md` lists.
 #[derive(Debug, Drop)]
 pub enum SqlError {
     /// 25P02: the block has failed, and the statement does not end it.

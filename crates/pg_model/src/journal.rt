@@ -17,7 +17,8 @@ pub enum Tag {
     Select(u64),
 }
 
-/// The reply to a statement: its tag and the rows that it returns. An integer in these rows is kept as a bigint.
+/// The reply to a statement: its tag and the rows that it returns. An integer in these rows is kept
+/// as a bigint.
 #[derive(Debug, Drop)]
 pub struct Reply {
     pub tag: Tag,

@@ -1,5 +1,5 @@
-//! What a script, a statement, an error and a journal are, once they are read: catalogues, statements whose names are
-//! resolved, and the entries that a run leaves.
+//! What a script, a statement, an error and a journal are, once they are read: catalogues,
+//! statements whose names are resolved, and the entries that a run leaves.
 #![tactic(auto)]
 
 mod catalogue;

@@ -46,9 +46,9 @@ pub type Lines = Items<Line>;
 
 /// A script as it was read.
 ///
-/// Sessions are numbered from 0 in the order in which they are first named, tables from 0 in order of declaration. Its
-/// type keeps that each number in it is one that exists, that kinds fit over its catalogue, and that its limits are
-/// kept.
+/// Sessions are numbered from 0 in the order in which they are first named, tables from 0 in order
+/// of declaration. Its type keeps that each number in it is one that exists, that kinds fit over
+/// its catalogue, and that its limits are kept.
 #[derive(Drop)]
 pub struct Script {
     /// The version of the script language.

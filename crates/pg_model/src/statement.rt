@@ -38,8 +38,8 @@ pub struct Select {
 
 /// `INSERT INTO target VALUES rows`.
 ///
-/// The expressions of a row are for the first of `columns`, in order: those of the list of columns, or all columns of
-/// the table where no list is written. A row may be shorter than the latter.
+/// The expressions of a row are for the first of `columns`, in order: those of the list of columns,
+/// or all columns of the table where no list is written. A row may be shorter than the latter.
 #[derive(Drop)]
 pub struct Insert {
     pub target: NamedTable,

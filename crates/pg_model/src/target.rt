@@ -4,7 +4,8 @@ use pg_lists::{IsSame, TryCopy};
 use pg_names::Name;
 use std::alloc::{AllocError, Global};
 
-/// What names the unique indexes of an ON CONFLICT. Its expressions name columns as those of source 0.
+/// What names the unique indexes of an ON CONFLICT. Its expressions name columns as those of source
+/// 0.
 #[derive(Drop)]
 pub enum Target {
     /// No target is written: every unique index.

@@ -71,7 +71,8 @@ fn lines(alloc: Global, number: u32) -> Result<Lines, AllocError>
     Ok(lines)
 }
 
-/// A script with two sessions, a table with a column of that kind and default, and a line of that number.
+/// A script with two sessions, a table with a column of that kind and default, and a line of that
+/// number.
 fn script(
     alloc: Global,
     first: &[u8],
@@ -109,7 +110,8 @@ fn a_copy_of_a_script_is_the_same(rt: HostRuntime) -> Result<(), Fail> {
     Ok(())
 }
 
-/// Whether a script is another than the one with the sessions a and b, an integer column and line 3.
+/// Whether a script is another than the one with the sessions a and b, an integer column and line
+/// 3.
 fn is_another(alloc: Global, other: Script) -> Result<bool, AllocError> {
     let given = script(alloc, b"a", b"b", Kind::Int, Value::Null, 3)?;
     let same = given.is_same(&other);

@@ -1,5 +1,5 @@
-//! Names, and lists of names and of named things that differ in their names: their order is kept, and each is found
-//! by its name at once.
+//! Names, and lists of names and of named things that differ in their names: their order is kept,
+//! and each is found by its name at once.
 #![tactic(auto)]
 
 mod name;

@@ -1,6 +1,6 @@
 ghost use Rattle.std.specs.Prelude.{◌≡◌, ◌↔◌, ◌<◌, ◌++◌, ◌∷◌, [], true, false, is_some, map, IfSome, IsTrue, OnErr, OnOk, length};
 ghost use Rattle.std.specs.Option.{option_copied};
-ghost use Rattle.pg_lists.specs.Numbered.{numbered};
+ghost use Rattle.pg_lists.specs.Numbered.{item_at};
 ghost use Rattle.pg_names.specs.Names.{are_distinct, is_among, number_of};
 
 use crate::{Named, Names};
@@ -8,7 +8,8 @@ use pg_lists::{IsSame, TryCopy, are_same};
 use std::alloc::{AllocError, Global};
 use std::marker::Model;
 
-/// Items that have names, no two the same, in the order in which they were put here. Each is found by its name by hashing.
+/// Items that have names, no two the same, in the order in which they were put here. Each is found
+/// by its name by hashing.
 #[derive(Drop)]
 pub struct NamedItems<T: Named> {
     names: Names,
@@ -66,7 +67,7 @@ impl<T: Named> NamedItems<T> {
 
     /// The item of a number, counted from 0, or `None` past the end.
     pub fn get(&self, number: usize) -> Option<&T>
-        ensures item { option_copied result ≡ numbered self.now number }
+        ensures item { option_copied result ≡ item_at self.now number }
         ensures distinct { are_distinct (map T.named self.now) ≡ true }
     {
         let _ = self.names.len();
@@ -84,7 +85,8 @@ impl<T: Named> NamedItems<T> {
         self.names.find(name)
     }
 
-    /// Puts an item behind the last, or refuses for want of memory alone and leaves the items as they were.
+    /// Puts an item behind the last, or refuses for want of memory alone and leaves the items as
+    /// they were.
     pub fn push(&mut self, item: T) -> Result<(), AllocError>
         requires { is_among (map T.named self.old) (T.named item) ≡ false }
         ensures ok { OnOk result (self.new ≡ self.old ++ item ∷ []) }

@@ -1,6 +1,6 @@
 ghost use Rattle.std.specs.Prelude.{◌≡◌, ◌↔◌, ◌<◌, ◌++◌, ◌∷◌, [], true, false, is_some, map, IfSome, IsTrue, OnErr, OnOk, length};
 ghost use Rattle.std.specs.Option.{option_copied};
-ghost use Rattle.pg_lists.specs.Numbered.{numbered};
+ghost use Rattle.pg_lists.specs.Numbered.{item_at};
 ghost use Rattle.pg_names.specs.Names.{are_distinct, is_among, is_name, number_of};
 
 use crate::Name;
@@ -49,7 +49,7 @@ impl Names {
     /// The name of a number, counted from 0, or `None` past the end.
     #[tactic(auto, using(crate::proofs::Distinct::all_at))]
     pub fn get(&self, number: usize) -> Option<&[u8]>
-        ensures name { option_copied result ≡ numbered self.now number }
+        ensures name { option_copied result ≡ item_at self.now number }
         ensures is_name { IfSome result (λ name. is_name name.now ≡ true) }
         ensures distinct { are_distinct self.now ≡ true }
     {
@@ -68,7 +68,8 @@ impl Names {
         self.names.get_index_of(name)
     }
 
-    /// Puts a name behind the last, or refuses for want of memory alone and leaves the names as they were.
+    /// Puts a name behind the last, or refuses for want of memory alone and leaves the names as
+    /// they were.
     pub fn push(&mut self, name: Name) -> Result<(), AllocError>
         requires { is_among self.old name ≡ false }
         ensures ok { OnOk result (self.new ≡ self.old ++ name ∷ []) }
@@ -98,7 +99,8 @@ impl IsSame for Names {
 
 /// Whether the same bytes stand in both, in the same order.
 fn are_same(a: &[Vec<u8>], b: &[Vec<u8>]) -> bool
-    ensures { IsTrue result ↔ (map (λ bytes. bytes.items) a.now ≡ map (λ bytes. bytes.items) b.now) }
+    ensures { IsTrue result ↔ (map (λ bytes. bytes.items) a.now ≡ map
+        (λ bytes. bytes.items) b.now) }
 {
     if a.len() != b.len() {
         return false;

@@ -71,13 +71,19 @@ impl Model for Bytes {
 
     ghost Value = { BytesView };
 
-    ghost view = { λ s. record { left = s.rest; fails = s.fails.items; next = s.next; faults = s.faults } };
+    ghost view = { λ s. record {
+      left = s.rest;
+      fails = s.fails.items;
+      next = s.next;
+      faults = s.faults;
+    } };
 }
 
 impl Bytes {
     /// A source of these bytes whose reads with the numbers in `fails`, counted from 1, fail.
     pub fn new(alloc: Global, bytes: &[u8], fails: &[u32]) -> Result<Bytes, AllocError>
-        ensures { IfOk result (λ source. source ≡ record { left = bytes.now; fails = fails.now; next = 1; faults = 0 }) }
+        ensures { IfOk result (λ source. source ≡
+            record { left = bytes.now; fails = fails.now; next = 1; faults = 0 }) }
     {
         Ok(Bytes {
             rest: PlainBytes::new(alloc, bytes)?,
@@ -99,7 +105,8 @@ impl Source for Bytes {
         ensures bound { ReadsAtMost result into.new }
         ensures bytes { ReadConsumes (Some self.old.left) (Some self.new.left) result into.new }
         ensures cause { HasCause self.old.faults self.new.faults result }
-        ensures count { IfOk result (λ count. count ≡ min (length into.new) (length self.old.left)) }
+        ensures count { IfOk result (λ count. count ≡ min (length into.new)
+            (length self.old.left)) }
         ensures fails { is_err result ≡ is_failing self.old.fails self.old.next }
         ensures after { self.new ≡ after_read self.old result }
     {

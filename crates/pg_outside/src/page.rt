@@ -30,19 +30,34 @@ impl Model for Page {
 
     ghost Value = { PageView };
 
-    ghost view = { λ p. record { taken = p.taken.items; room = p.room; most = p.most; fails = p.fails.items; next = p.next; faults = p.faults } };
+    ghost view = { λ p. record {
+      taken = p.taken.items;
+      room = p.room;
+      most = p.most;
+      fails = p.fails.items;
+      next = p.next;
+      faults = p.faults;
+    } };
 
     // There is memory for all that has room, and each call can take a byte.
     ghost invariant = { λ p. (vec_len p.taken + p.room ≤ vec_capacity p.taken) × (0 < p.most) };
 }
 
 impl Page {
-    /// An empty page with room for `room` bytes, which takes at most `most` bytes a call. The writes
-    /// with the numbers in `fails`, counted from 1, fail, and so do those that find no room.
+    /// An empty page with room for `room` bytes, which takes at most `most` bytes a call. The
+    /// writes with the numbers in `fails`, counted from 1, fail, and so do those that find no room.
     /// All its memory is taken here, and none by a write.
     pub fn new(alloc: Global, room: u32, most: u32, fails: &[u32]) -> Result<Page, AllocError>
         requires { 1 ≤ most }
-        ensures { IfOk result (λ page. page ≡ record { taken = []; room = room; most = most; fails = fails.now; next = 1; faults = 0 }) }
+        ensures { IfOk result (λ page. page ≡
+            record {
+              taken = [];
+              room = room;
+              most = most;
+              fails = fails.now;
+              next = 1;
+              faults = 0;
+            }) }
     {
         Ok(Page {
             taken: Vec::with_capacity(alloc, room as usize)?,
@@ -74,7 +89,8 @@ impl Sink for Page {
         ensures some { TakesSome result piece.now }
         ensures bytes { WriteAppends (Some self.old.taken) (Some self.new.taken) result piece.now }
         ensures cause { HasCause self.old.faults self.new.faults result }
-        ensures count { IfOk result (λ count. count ≡ min (length piece.now) (min self.old.most self.old.room)) }
+        ensures count { IfOk result (λ count. count ≡ min (length piece.now)
+            (min self.old.most self.old.room)) }
         ensures fails { is_err result ≡ is_refusing self.old }
         ensures after { self.new ≡ after_write self.old piece.now result }
     {

@@ -25,12 +25,14 @@ pub enum ReadAll {
     Memory,
 }
 
-/// Reads a source to its end, or until more than `limit` bytes were read: of no input is more than `limit + 1` bytes read.
+/// Reads a source to its end, or until more than `limit` bytes were read: of no input is more than
+/// `limit + 1` bytes read.
 pub fn read_all<S: Source>(alloc: Global, source: &mut S, limit: usize) -> ReadAll
     requires { limit < usize.MAX }
     ensures all { IfAll result (λ bytes. ReadsWhole (S.left source.old) (S.left source.new) bytes) }
     ensures within { IfAll result (λ bytes. length bytes ≤ limit) }
-    ensures long { IfTooLong result (λ bytes. Consumes (S.left source.old) (S.left source.new) bytes) }
+    ensures long { IfTooLong result
+        (λ bytes. Consumes (S.left source.old) (S.left source.new) bytes) }
     ensures over { IfTooLong result (λ bytes. length bytes ≡ limit + 1) }
     ensures lost { OnLost result (ReadsFront (S.left source.old) (S.left source.new) limit) }
     ensures short { ReadsFront (S.left source.old) (S.left source.new) (limit + 1) }
@@ -68,7 +70,8 @@ fn read_more<S: Source>(
     // What was read since any earlier moment is now these bytes.
     ensures read { (before : Option (List ℕ)) → Consumes before (S.left source.old) bytes.old.items
         → Consumes before (S.left source.new) bytes.new.items }
-    ensures end { IfOk result (λ count. count ≡ 0 → 0 < length block.new → IsAtEnd (S.left source.new)) }
+    ensures end { IfOk result (λ count. count ≡ 0 → 0 < length block.new → IsAtEnd
+        (S.left source.new)) }
     ensures cause { HasCause (S.faults source.old) (S.faults source.new) result }
 {
     let count = source.read(block)?;

@@ -6,7 +6,7 @@ use Rattle.std.proofs.lemmas.List.{append_cancel_left}
 use Rattle.std.proofs.lemmas.Slice.Eq.{bytes_eq-Decides}
 use Rattle.pg_names.specs.Names.{are_distinct, is_among, is_name, is_name_byte}
 use Rattle.pg_model.specs.declared.catalogue.TableShape.{TableShape}
-use Rattle.pg_model.specs.Errors.{named}
+use Rattle.pg_model.specs.Errors.{quoted_name}
 use Rattle.pg_model.specs.Limits.{is_written, most_columns}
 use Rattle.pg_model.specs.Statements.{is_check, is_column, is_shape}
 use Rattle.pg_print.proofs.Fronts.{both, fronts, left_holds, right_holds}
@@ -93,9 +93,9 @@ name_front x y s t xn yn e =
 
 -- names between words
 pub named_same : (before after x y : List ℕ) → is_name x ≡ true → is_name y ≡ true →
-    before ++ (named x ++ after) ≡ before ++ (named y ++ after) → x ≡ y
+    before ++ (quoted_name x ++ after) ≡ before ++ (quoted_name y ++ after) → x ≡ y
 named_same before after x y xn yn e =
-    let inner : named x ++ after ≡ named y ++ after = append_cancel_left before _ _ e in
+    let inner : quoted_name x ++ after ≡ quoted_name y ++ after = append_cancel_left before _ _ e in
     let behind : (x ++ 34 ∷ []) ++ after ≡ (y ++ 34 ∷ []) ++ after = cc in
     (fronts is_name_byte x y (34 ∷ after) (34 ∷ after) xn yn refl refl
     (sym (append_assoc x (34 ∷ []) after) ∙ behind ∙ append_assoc y (34 ∷ []) after)).0

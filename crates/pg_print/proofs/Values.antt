@@ -8,7 +8,7 @@ use Rattle.std.proofs.lemmas.Fmt.{decimal_injective, decimal_nonempty}
 use Rattle.pg_values.specs.declared.value.Value.{Value}
 use Rattle.pg_values.specs.declared.value.Value.TheVariants as value
 use Rattle.pg_names.specs.Names.{is_digit, is_name_byte}
-use Rattle.pg_model.specs.Texts.{quoted, value_text}
+use Rattle.pg_model.specs.Texts.{quoted_form, value_text}
 use Rattle.pg_print.specs.Laws.{IsWidened}
 use Rattle.pg_print.proofs.Fronts.{Stops, apart, both, decimal_all, differ, each_digit, fronts, left_holds}
 
@@ -70,18 +70,18 @@ quote_ends true y [] u yc ends e = ends
 quote_ends true y (d ∷ s) u yc ends e = differ (λ b. 39 == b) 39 d refl ends.1 (cc)
 quote_ends false y s u yc ends e = differ (λ z. z == 39) 39 y refl yc (cc)
 
-quoted_front : (xs ys s t : List ℕ) → Ends s → Ends t → quoted xs ++ 39 ∷ s ≡ quoted ys ++ 39 ∷ t → (xs ≡ ys) × (s ≡ t)
+quoted_front : (xs ys s t : List ℕ) → Ends s → Ends t → quoted_form xs ++ 39 ∷ s ≡ quoted_form ys ++ 39 ∷ t → (xs ≡ ys) × (s ≡ t)
 quoted_front [] [] s t ss ts e = (refl, (cc))
 quoted_front [] (y ∷ ys) s t ss ts e =
-    absurd (quote_ends (y == 39) y s (quoted ys ++ 39 ∷ t) refl ss
-    (e ∙ append_assoc (quoted_byte (y == 39) y) (quoted ys) (39 ∷ t)))
+    absurd (quote_ends (y == 39) y s (quoted_form ys ++ 39 ∷ t) refl ss
+    (e ∙ append_assoc (quoted_byte (y == 39) y) (quoted_form ys) (39 ∷ t)))
 quoted_front (x ∷ xs) [] s t ss ts e =
-    absurd (quote_ends (x == 39) x t (quoted xs ++ 39 ∷ s) refl ts
-    (sym e ∙ append_assoc (quoted_byte (x == 39) x) (quoted xs) (39 ∷ s)))
+    absurd (quote_ends (x == 39) x t (quoted_form xs ++ 39 ∷ s) refl ts
+    (sym e ∙ append_assoc (quoted_byte (x == 39) x) (quoted_form xs) (39 ∷ s)))
 quoted_front (x ∷ xs) (y ∷ ys) s t ss ts e =
-    let first = byte_front (x == 39) (y == 39) x y (quoted xs ++ 39 ∷ s) (quoted ys ++ 39 ∷ t) refl refl
-    (sym (append_assoc (quoted_byte (x == 39) x) (quoted xs) (39 ∷ s)) ∙ e
-    ∙ append_assoc (quoted_byte (y == 39) y) (quoted ys) (39 ∷ t)) in
+    let first = byte_front (x == 39) (y == 39) x y (quoted_form xs ++ 39 ∷ s) (quoted_form ys ++ 39 ∷ t) refl refl
+    (sym (append_assoc (quoted_byte (x == 39) x) (quoted_form xs) (39 ∷ s)) ∙ e
+    ∙ append_assoc (quoted_byte (y == 39) y) (quoted_form ys) (39 ∷ t)) in
     let rest = quoted_front xs ys s t ss ts first.1 in
     (ap₂ (λ z zs. z ∷ zs) first.0 rest.0, rest.1)
 
@@ -144,9 +144,9 @@ plain_same (value.Bool false) (value.Bool true) nv nw wv ww e = absurd (apart 1 
 pub value_front : (v w : Value) (s t : List ℕ) → IsWidened v → IsWidened w → Ends s → Ends t →
     value_text v ++ s ≡ value_text w ++ t → (v ≡ w) × (s ≡ t)
 value_front (value.Text x) (value.Text y) s t rv rw ss ts e =
-    let inner : (quoted x ++ 39 ∷ []) ++ s ≡ (quoted y ++ 39 ∷ []) ++ t = cc in
+    let inner : (quoted_form x ++ 39 ∷ []) ++ s ≡ (quoted_form y ++ 39 ∷ []) ++ t = cc in
     let rest = quoted_front x y s t ss ts
-    (sym (append_assoc (quoted x) (39 ∷ []) s) ∙ inner ∙ append_assoc (quoted y) (39 ∷ []) t) in
+    (sym (append_assoc (quoted_form x) (39 ∷ []) s) ∙ inner ∙ append_assoc (quoted_form y) (39 ∷ []) t) in
     (ap value.Text rest.0, rest.1)
 value_front (value.Text x) w s t rv rw ss ts e =
     absurd (no_quote (value_text w) t _ (plain_value w refl rw) ts (sym e))

@@ -1,6 +1,6 @@
 // The state and the text of an error; each function that puts appends one.
 ghost use Rattle.std.specs.Prelude.{◌≡◌, ◌++◌, OnOk, codes};
-ghost use Rattle.pg_model.specs.Errors.{counted_text, error_state, error_text, named};
+ghost use Rattle.pg_model.specs.Errors.{counted_text, error_state, error_text, quoted_name};
 
 use pg_model::{Counted, SqlError};
 use std::alloc::AllocError;
@@ -39,7 +39,8 @@ fn counted_text(counted: Counted) -> &'static [u8]
 
 /// Words, a name between `"`, and words.
 fn put_named(out: &mut Vec<u8>, before: &[u8], name: &[u8], after: &[u8]) -> Result<(), AllocError>
-    ensures { OnOk result (out.new.items ≡ out.old.items ++ before.now ++ named name.now ++ after.now) }
+    ensures { OnOk result (out.new.items ≡ out.old.items ++ before.now ++ quoted_name name.now
+        ++ after.now) }
 {
     out.extend_from_slice(before)?;
     out.push(b'"')?;

@@ -28,9 +28,10 @@ pub fn journal_text(
 
 /// The line of an entry in the text of a journal, `session WORDS`, ended by LF.
 ///
-/// The words of an entry are `snapped COMMITS`, `found NUMBER`, `placed TABLE ROW`, `inserted TABLE ROW`, `committed`,
-/// `rolled back`, `replied TAG (VALUES) ..`, `failed STATE TEXT` or `closed`. A number that is not one of the script's
-/// sessions or tables has the empty name. Refuses for want of memory alone.
+/// The words of an entry are `snapped COMMITS`, `found NUMBER`, `placed TABLE ROW`, `inserted TABLE
+/// ROW`, `committed`, `rolled back`, `replied TAG (VALUES) ..`, `failed STATE TEXT` or `closed`. A
+/// number that is not one of the script's sessions or tables has the empty name. Refuses for want
+/// of memory alone.
 pub fn write_entry(alloc: Global, script: &Script, entry: &Entry) -> Result<Items<u8>, AllocError>
     ensures { IfOk result (λ text. text ≡ entry_line script.now entry.now) }
 {
@@ -82,7 +83,8 @@ fn put_on_row(
     table: u32,
     row: u64,
 ) -> Result<(), AllocError>
-    ensures { OnOk result (out.new.items ≡ out.old.items ++ row_words script.now done.now table row) }
+    ensures { OnOk result (out.new.items ≡ out.old.items
+        ++ row_words script.now done.now table row) }
 {
     out.extend_from_slice(done)?;
     out.push(b' ')?;
@@ -91,7 +93,8 @@ fn put_on_row(
 }
 
 fn put_replied(out: &mut Vec<u8>, reply: &Reply) -> Result<(), AllocError>
-    ensures { OnOk result (out.new.items ≡ out.old.items ++ codes "replied " ++ tag_text reply.now.tag
+    ensures { OnOk result (out.new.items ≡ out.old.items ++ codes "replied "
+        ++ tag_text reply.now.tag
         ++ flat_map (λ row. codes " (" ++ row_text row ++ codes ")") reply.now.rows) }
 {
     out.extend_from_slice(b"replied ")?;

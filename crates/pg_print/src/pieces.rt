@@ -2,13 +2,14 @@
 ghost use Rattle.std.specs.Prelude.{◌≡◌, ◌++◌, ◌∷◌, [], OnOk, decimal, drop, flat_map, map};
 ghost use Rattle.std.specs.Fmt.{signed_decimal};
 ghost use Rattle.pg_model.specs.Printed.{session_name, table_name};
-ghost use Rattle.pg_model.specs.Texts.{quoted, row_text, tag_text, value_text};
+ghost use Rattle.pg_model.specs.Texts.{quoted_form, row_text, tag_text, value_text};
 
 use itoa::Buffer;
 use pg_model::{Script, Tag};
 use pg_values::Value;
 use std::alloc::AllocError;
 
+/// Puts a number in decimal behind the text. Refuses for want of memory alone.
 pub fn put_number(out: &mut Vec<u8>, number: u64) -> Result<(), AllocError>
     ensures { OnOk result (out.new.items ≡ out.old.items ++ decimal number) }
 {
@@ -24,7 +25,7 @@ fn put_signed(out: &mut Vec<u8>, number: i64) -> Result<(), AllocError>
 }
 
 fn put_doubled(out: &mut Vec<u8>, bytes: &[u8]) -> Result<(), AllocError>
-    ensures { OnOk result (out.new.items ≡ out.old.items ++ quoted bytes.now) }
+    ensures { OnOk result (out.new.items ≡ out.old.items ++ quoted_form bytes.now) }
 {
     for byte in bytes {
         if *byte == b'\'' {
@@ -37,7 +38,8 @@ fn put_doubled(out: &mut Vec<u8>, bytes: &[u8]) -> Result<(), AllocError>
 }
 
 fn put_text(out: &mut Vec<u8>, bytes: &[u8]) -> Result<(), AllocError>
-    ensures { OnOk result (out.new.items ≡ out.old.items ++ 39 ∷ (quoted bytes.now ++ 39 ∷ [])) }
+    ensures { OnOk result (out.new.items ≡ out.old.items ++ 39 ∷
+        (quoted_form bytes.now ++ 39 ∷ [])) }
 {
     out.push(b'\'')?;
     put_doubled(out, bytes)?;
@@ -69,6 +71,7 @@ fn put_more_values(out: &mut Vec<u8>, values: &[Value]) -> Result<(), AllocError
     Ok(())
 }
 
+/// Puts the values of a row behind the text, joined by `|`. Refuses for want of memory alone.
 pub fn put_row(out: &mut Vec<u8>, values: &[Value]) -> Result<(), AllocError>
     ensures { OnOk result (out.new.items ≡ out.old.items ++ row_text values.now) }
 {
@@ -79,6 +82,7 @@ pub fn put_row(out: &mut Vec<u8>, values: &[Value]) -> Result<(), AllocError>
     Ok(())
 }
 
+/// Puts the tag of a reply behind the text. Refuses for want of memory alone.
 pub fn put_tag(out: &mut Vec<u8>, tag: Tag) -> Result<(), AllocError>
     ensures { OnOk result (out.new.items ≡ out.old.items ++ tag_text tag) }
 {

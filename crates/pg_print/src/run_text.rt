@@ -1,6 +1,6 @@
 ghost use Rattle.std.specs.Prelude.{◌≡◌, ◌++◌, IfOk, OnOk, codes, drop, flat_map, length};
 ghost use Rattle.pg_model.specs.Printed.{entry_text, failure_text, reply_text, run_text, table_text, tables_text};
-ghost use Rattle.pg_model.specs.Texts.{ended, row_text};
+ghost use Rattle.pg_model.specs.Texts.{with_line_end, row_text};
 
 use crate::errors::put_error;
 use crate::pieces::{put_row, put_tag, session_name};
@@ -9,16 +9,18 @@ use pg_model::{Entry, EntryAct, Finished, Reply, Rows, Script, SqlError, TableSh
 use pg_values::Values;
 use std::alloc::{AllocError, Global};
 
-/// The text of a run of a script: the replies and failures in journal order, and then the committed rows of each table,
-/// in order of declaration.
+/// The text of a run of a script: the replies and failures in journal order, and then the committed
+/// rows of each table, in order of declaration.
 ///
-/// Each line ends with LF. A row that a reply returns is a line `session> VALUES`, the reply itself `session: TAG`, and
-/// a failure `session: ERROR STATE: TEXT`. A table is a line `table NAME` and a line for each row. Values are joined by
-/// `|`: NULL is `null`, a boolean `t` or `f`, a number is in decimal, and a text stands between `'` with each `'` in it
-/// doubled. A number that is not one of the script's sessions has the empty name. Tables are printed as long as there
-/// are both a name and rows. Refuses for want of memory alone.
+/// Each line ends with LF. A row that a reply returns is a line `session> VALUES`, the reply itself
+/// `session: TAG`, and a failure `session: ERROR STATE: TEXT`. A table is a line `table NAME` and a
+/// line for each row. Values are joined by `|`: NULL is `null`, a boolean `t` or `f`, a number is
+/// in decimal, and a text stands between `'` with each `'` in it doubled. A number that is not one
+/// of the script's sessions has the empty name. Tables are printed as long as there are both a name
+/// and rows. Refuses for want of memory alone.
 pub fn print(alloc: Global, script: &Script, finished: &Finished) -> Result<Items<u8>, AllocError>
-    ensures { IfOk result (λ text. text ≡ run_text script.now finished.now.journal finished.now.tables) }
+    ensures { IfOk result (λ text. text ≡
+        run_text script.now finished.now.journal finished.now.tables) }
 {
     let mut out = Vec::new(alloc);
     put_entries(&mut out, script, finished.journal.as_slice())?;
@@ -31,7 +33,8 @@ pub fn print(alloc: Global, script: &Script, finished: &Finished) -> Result<Item
 }
 
 fn put_entries(out: &mut Vec<u8>, script: &Script, entries: &[Entry]) -> Result<(), AllocError>
-    ensures { OnOk result (out.new.items ≡ out.old.items ++ flat_map (entry_text script.now) entries.now) }
+    ensures { OnOk result (out.new.items ≡ out.old.items ++ flat_map
+        (entry_text script.now) entries.now) }
 {
     for entry in entries {
         put_entry(out, script, entry)?;
@@ -69,7 +72,7 @@ fn put_reply(out: &mut Vec<u8>, name: &[u8], reply: &Reply) -> Result<(), AllocE
 
 fn put_returned(out: &mut Vec<u8>, name: &[u8], rows: &[Values]) -> Result<(), AllocError>
     ensures { OnOk result (out.new.items ≡ out.old.items
-        ++ flat_map (λ row. ended (name.now ++ codes "> " ++ row_text row)) rows.now) }
+        ++ flat_map (λ row. with_line_end (name.now ++ codes "> " ++ row_text row)) rows.now) }
 {
     for row in rows {
         out.extend_from_slice(name)?;

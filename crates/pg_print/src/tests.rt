@@ -122,7 +122,8 @@ fn fail(journal: &mut Vec<Entry>, error: SqlError) -> Result<(), AllocError> {
     put(journal, 1, EntryAct::Failed(error))
 }
 
-/// Each act but a reply and a failure, the last one of a session and of a table that the script has not.
+/// Each act but a reply and a failure, the last one of a session and of a table that the script has
+/// not.
 fn acts(alloc: Global) -> Result<Vec<Entry>, AllocError> {
     let mut journal = Vec::new(alloc);
     put(&mut journal, 0, EntryAct::Snapped(12))?;

@@ -1,7 +1,7 @@
 -- The first line of a text.
 use Rattle.std.proofs.Common.{◌≡◌, ◌+◌, ◌==◌, ℕ, suc, Bool, true, false, cond, List, [], ◌∷◌, ◌++◌, take, drop, map, not, refl, ap, arith}
 use Rattle.std.specs.List.{prefix_len}
-use Rattle.pg_script.specs.Bytes.{cut_at_line_feeds, glued, lines_in, without_last, without_return}
+use Rattle.pg_script.specs.Bytes.{cut_at_line_feeds, with_first_byte, lines_in, without_last, without_return}
 
 -- the last item is dropped where it passes the test
 pub without_last_more : {X : Type 0} (test : X → Bool) (xs : List X) (x : X) →
@@ -33,7 +33,7 @@ cut_first (b ∷ xs) = at (b == 10) (cut_first xs)
     at : (lf : Bool) →
         cut_at_line_feeds xs
         ≡ take (prefix_len (λ b. not (b == 10)) xs) xs ∷ cut_behind (drop (prefix_len (λ b. not (b == 10)) xs) xs) →
-        cond lf ([] ∷ cut_at_line_feeds xs) (glued b (cut_at_line_feeds xs))
+        cond lf ([] ∷ cut_at_line_feeds xs) (with_first_byte b (cut_at_line_feeds xs))
         ≡ take (cond (not lf) (1 + prefix_len (λ b. not (b == 10)) xs) 0) (b ∷ xs)
         ∷ cut_behind (drop (cond (not lf) (1 + prefix_len (λ b. not (b == 10)) xs) 0) (b ∷ xs))
     at true rest = refl

@@ -37,7 +37,7 @@ use Rattle.pg_analyse.proofs.Fitting.{declarations_fit}
 use Rattle.pg_analyse.proofs.FittingStatements.{statements_fit}
 use Rattle.pg_script.specs.declared.draft.Draft.{Draft}
 use Rattle.pg_script.specs.Built.{is_short}
-use Rattle.pg_script.specs.Bytes.{bytes_behind, cut_at_line_feeds, glued, lines_behind, without_return}
+use Rattle.pg_script.specs.Bytes.{bytes_behind, cut_at_line_feeds, with_first_byte, lines_behind, without_return}
 use Rattle.pg_script.specs.Drafts.{AreTaken, IsTaken, early_reasons, empty_draft, with_name, with_names}
 use Rattle.pg_script.specs.Parts.{given_line, given_statement, line_in, session_names, setup_in, setup_insert, tables_behind, with_table}
 use Rattle.pg_script.specs.Reasons.{name_reasons, place_reasons}
@@ -371,7 +371,7 @@ fits_first mode =
 
 -- ---- lines and bytes
 
-some_glued : (b : ℕ) (lines : List (List ℕ)) → 1 ≤ length lines → length (glued b lines) ≡ length lines
+some_glued : (b : ℕ) (lines : List (List ℕ)) → 1 ≤ length lines → length (with_first_byte b lines) ≡ length lines
 some_glued b [] some = absurd (omega (arith, some))
 some_glued b (line ∷ lines) some = refl
 
@@ -383,8 +383,8 @@ cut_few (b ∷ bytes) = at (b == 10) (cut_few bytes)
   where
     at : (lf : Bool) →
         (1 ≤ length (cut_at_line_feeds bytes)) × (length (cut_at_line_feeds bytes) ≤ suc (length bytes)) →
-        (1 ≤ length (cond lf ([] ∷ cut_at_line_feeds bytes) (glued b (cut_at_line_feeds bytes))))
-        × (length (cond lf ([] ∷ cut_at_line_feeds bytes) (glued b (cut_at_line_feeds bytes))) ≤ suc (suc (length bytes)))
+        (1 ≤ length (cond lf ([] ∷ cut_at_line_feeds bytes) (with_first_byte b (cut_at_line_feeds bytes))))
+        × (length (cond lf ([] ∷ cut_at_line_feeds bytes) (with_first_byte b (cut_at_line_feeds bytes))) ≤ suc (suc (length bytes)))
     at true rest = let most = rest.1 in (omega arith, omega (arith, most))
     at false rest =
         let least = rest.0 in

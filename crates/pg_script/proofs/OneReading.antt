@@ -22,7 +22,7 @@ use Rattle.pg_script.specs.Headings.{Heading, heading_of}
 use Rattle.pg_script.specs.Laws.{BytesAreRefusedOnce, BytesSayOneScript, HaveSameParts, IsSameReason, NoScriptIsRefused}
 use Rattle.pg_script.specs.Parts.{catalogue_of, session_names, sessions_of}
 use Rattle.pg_script.specs.Reading.{AreFine, AreForms, IsFirstRefused, IsRefused, LacksHeader, Say, most_bytes}
-use Rattle.pg_script.specs.Reasons.{has_many_sessions, is_free, is_late_setup, is_misplaced, is_unknown, name_reasons, orders_steps, place_reasons, placed, reasons_of, setup_reasons, when}
+use Rattle.pg_script.specs.Reasons.{has_many_sessions, is_free, is_late_setup, is_misplaced, is_unknown, name_reasons, orders_steps, place_reasons, reason_of_place, reasons_of, setup_reasons, when}
 use Rattle.pg_script.proofs.Firsts.{left_none, right_none}
 use Rattle.pg_script.proofs.Held.{sessions_more}
 
@@ -49,7 +49,7 @@ faultless : (line : LineForm) → place_reasons line ≡ [] → Faultless line
 faultless (form.Setup (Ok tree)) none = tt
 faultless (form.Setup (Err fault)) none = absurd (cc)
 faultless (form.Given session (Ok tree)) none = tt
-faultless (form.Given session (Err fault)) none = no_reason (name_reasons session) (placed fault) none
+faultless (form.Given session (Err fault)) none = no_reason (name_reasons session) (reason_of_place fault) none
 faultless form.Comment none = tt
 faultless (form.Pause session label) none = tt
 faultless (form.Go session) none = tt
@@ -264,16 +264,16 @@ by_equal mode before a b others more why other is one two =
 
 -- where only their faults are told apart by the grammar, so is the first reason
 by_fault : (front xs ys others more : List Reason) (f g : PlaceFault) (why other : Reason) → IsSameFault f g →
-    xs ≡ front ++ placed f ∷ [] → ys ≡ front ++ placed g ∷ [] → xs ≡ why ∷ others → ys ≡ other ∷ more →
+    xs ≡ front ++ reason_of_place f ∷ [] → ys ≡ front ++ reason_of_place g ∷ [] → xs ≡ why ∷ others → ys ≡ other ∷ more →
     IsSameReason why other
 by_fault front xs ys others more f g why other is first second one two =
-    at (heads front [] [] others more (placed f) (placed g) why other (sym first ∙ one) (sym second ∙ two)) is
+    at (heads front [] [] others more (reason_of_place f) (reason_of_place g) why other (sym first ∙ one) (sym second ∙ two)) is
   where
-    at : (why ≡ other) ⊎ ((why ≡ placed f) × (other ≡ placed g)) → IsSameFault f g → IsSameReason why other
+    at : (why ≡ other) ⊎ ((why ≡ reason_of_place f) × (other ≡ reason_of_place g)) → IsSameFault f g → IsSameReason why other
     at (inl e) equal = inl e
-    at (inr e) (inl equal) = inl (e.0 ∙ ap placed equal ∙ sym e.1)
-    at (inr e) (inr (inl w)) = inr (inl (w.0, e.0 ∙ ap placed w.1, e.1 ∙ ap placed w.2))
-    at (inr e) (inr (inr w)) = inr (inr (w.0, e.0 ∙ ap placed w.1, e.1 ∙ ap placed w.2))
+    at (inr e) (inl equal) = inl (e.0 ∙ ap reason_of_place equal ∙ sym e.1)
+    at (inr e) (inr (inl w)) = inr (inl (w.0, e.0 ∙ ap reason_of_place w.1, e.1 ∙ ap reason_of_place w.2))
+    at (inr e) (inr (inr w)) = inr (inr (w.0, e.0 ∙ ap reason_of_place w.1, e.1 ∙ ap reason_of_place w.2))
 
 setup_same : (mode : Mode) (before : List LineForm) (f g : PlaceFault) →
     early mode before (form.Setup (Err f)) ≡ early mode before (form.Setup (Err g))
@@ -294,21 +294,21 @@ given_same mode before session f g =
     (many_same before (form.Given session (Err f)) (form.Given session (Err g)) refl)
 
 setup_reasons_are : (mode : Mode) (before : List LineForm) (f : PlaceFault) →
-    reasons_of mode before (form.Setup (Err f)) ≡ early mode before (form.Setup (Err f)) ++ placed f ∷ []
+    reasons_of mode before (form.Setup (Err f)) ≡ early mode before (form.Setup (Err f)) ++ reason_of_place f ∷ []
 setup_reasons_are mode before f = append-nil _
 
 given_reasons_are : (mode : Mode) (before : List LineForm) (session : SessionName) (f : PlaceFault) →
     reasons_of mode before (form.Given session (Err f))
-    ≡ (early mode before (form.Given session (Err f)) ++ name_reasons session) ++ placed f ∷ []
+    ≡ (early mode before (form.Given session (Err f)) ++ name_reasons session) ++ reason_of_place f ∷ []
 given_reasons_are mode before session f =
-    append-nil _ ∙ sym (append_assoc (early mode before (form.Given session (Err f))) (name_reasons session) (placed f ∷ []))
+    append-nil _ ∙ sym (append_assoc (early mode before (form.Given session (Err f))) (name_reasons session) (reason_of_place f ∷ []))
 
 reason_same : (mode : Mode) (before : List LineForm) (a b : LineForm) (others more : List Reason) (why other : Reason) →
     IsSameForm a b → reasons_of mode before a ≡ why ∷ others → reasons_of mode before b ≡ other ∷ more →
     IsSameReason why other
 reason_same mode before (form.Setup (Err f)) (form.Setup (Err g)) others more why other is one two =
     by_fault (early mode before (form.Setup (Err f))) _ _ others more f g why other is (setup_reasons_are mode before f)
-    (setup_reasons_are mode before g ∙ ap (λ e. e ++ placed g ∷ []) (sym (setup_same mode before f g))) one two
+    (setup_reasons_are mode before g ∙ ap (λ e. e ++ reason_of_place g ∷ []) (sym (setup_same mode before f g))) one two
 reason_same mode before (form.Setup (Err f)) (form.Setup (Ok tree)) others more why other is one two = absurd is
 reason_same mode before (form.Setup (Err f)) form.Comment others more why other is one two =
     by_equal mode before _ _ others more why other is one two
@@ -327,10 +327,10 @@ reason_same mode before (form.Given session (Err f)) (form.Given another (Err g)
     (given_reasons_are mode before session f)
     (subst
     (λ s. reasons_of mode before (form.Given s (Err g))
-    ≡ (early mode before (form.Given session (Err f)) ++ name_reasons session) ++ placed g ∷ [])
+    ≡ (early mode before (form.Given session (Err f)) ++ name_reasons session) ++ reason_of_place g ∷ [])
     is.0
     (given_reasons_are mode before session g
-    ∙ ap (λ e. (e ++ name_reasons session) ++ placed g ∷ []) (sym (given_same mode before session f g)))) one two
+    ∙ ap (λ e. (e ++ name_reasons session) ++ reason_of_place g ∷ []) (sym (given_same mode before session f g)))) one two
 reason_same mode before (form.Given session (Err f)) (form.Given another (Ok tree)) others more why other is one two =
     absurd is.1
 reason_same mode before (form.Given session (Err f)) form.Comment others more why other is one two =

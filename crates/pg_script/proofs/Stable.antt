@@ -3,7 +3,7 @@ use Rattle.std.proofs.Common.{append-nil, ◌≡◌, refl, sym, ◌∙◌, ap, �
 use Rattle.std.specs.Prelude.{Result, unwrap_or}
 use Rattle.std.specs.Option.{option_and_then, option_map}
 use Rattle.std.proofs.lemmas.List.{map-append}
-use Rattle.pg_lists.specs.Numbered.{numbered}
+use Rattle.pg_lists.specs.Numbered.{item_at}
 use Rattle.pg_names.specs.Names.{number_of}
 use Rattle.pg_parse_stmt.specs.declared.tree.Insert.{Insert}
 use Rattle.pg_parse_stmt.specs.declared.tree.StmtTree.{StmtTree}
@@ -19,8 +19,8 @@ use Rattle.pg_script.specs.Reasons.{fault_reasons, is_of_setup}
 use Rattle.pg_script.proofs.Appearances.{number_grows}
 
 -- an item keeps its number when others stand behind
-pub at_grows : {X : Type 0} (xs more : List X) (number : ℕ) (x : X) → numbered xs number ≡ Some x →
-    numbered (xs ++ more) number ≡ Some x
+pub at_grows : {X : Type 0} (xs more : List X) (number : ℕ) (x : X) → item_at xs number ≡ Some x →
+    item_at (xs ++ more) number ≡ Some x
 at_grows [] more number x is = absurd (cc)
 at_grows (y ∷ ys) more zero x is = is
 at_grows (y ∷ ys) more (suc number) x is = at_grows ys more number x is
@@ -31,7 +31,7 @@ pub table_grows : (catalogue more : List TableShape) (name : List ℕ) (named : 
 table_grows catalogue more name named is = at (number_of (table_names catalogue) name) refl is
   where
     found : (number : ℕ) (shape : Option TableShape) → number_of (table_names catalogue) name ≡ Some number →
-        numbered catalogue number ≡ shape →
+        item_at catalogue number ≡ shape →
         option_map (λ s. record { table = number; shape = s }) shape ≡ Some named →
         table_named (catalogue ++ more) name ≡ Some named
     found number None e f g = absurd (cc)
@@ -43,11 +43,11 @@ table_grows catalogue more name named is = at (number_of (table_names catalogue)
 
     at : (number : Option ℕ) → number_of (table_names catalogue) name ≡ number →
         option_and_then
-        (λ n. option_map (λ s. record { table = n; shape = s }) (numbered catalogue n)) number
+        (λ n. option_map (λ s. record { table = n; shape = s }) (item_at catalogue n)) number
         ≡ Some named →
         table_named (catalogue ++ more) name ≡ Some named
     at None e f = absurd (cc)
-    at (Some number) e f = found number (numbered catalogue number) e refl f
+    at (Some number) e f = found number (item_at catalogue number) e refl f
 
 -- an INSERT without an error is analysed in the same way when tables follow
 insert_grows : (catalogue more : List TableShape) (insert : Insert) →

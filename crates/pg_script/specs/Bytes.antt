@@ -8,14 +8,14 @@ without_last test (x ∷ []) = if test x then [] else x ∷ []
 without_last test (x ∷ y ∷ xs) = x ∷ without_last test (y ∷ xs)
 
 -- the lines with a byte in front of the first
-abbrev pub glued : ℕ → List (List ℕ) → List (List ℕ)
-glued b [] = (b ∷ []) ∷ []
-glued b (line ∷ lines) = (b ∷ line) ∷ lines
+abbrev pub with_first_byte : ℕ → List (List ℕ) → List (List ℕ)
+with_first_byte b [] = (b ∷ []) ∷ []
+with_first_byte b (line ∷ lines) = (b ∷ line) ∷ lines
 
 -- bytes are cut at LF
 abbrev pub cut_at_line_feeds : List ℕ → List (List ℕ)
 cut_at_line_feeds [] = [] ∷ []
-cut_at_line_feeds (b ∷ bytes) = if b == 10 then [] ∷ cut_at_line_feeds bytes else glued b (cut_at_line_feeds bytes)
+cut_at_line_feeds (b ∷ bytes) = if b == 10 then [] ∷ cut_at_line_feeds bytes else with_first_byte b (cut_at_line_feeds bytes)
 
 -- a CR at the end of a line is dropped
 abbrev pub without_return : List ℕ → List ℕ

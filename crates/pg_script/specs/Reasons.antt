@@ -93,13 +93,13 @@ is_misplaced (form.Given session (Ok tree)) = not (is_of_session tree)
 is_misplaced _ = false
 
 -- the reason that a place fault is
-abbrev pub placed : PlaceFault → Reason
-placed (place.Byte at) = reason.Byte at
-placed (place.Literal at) = reason.Literal at
-placed (place.LongName at) = reason.LongName at
-placed (place.Syntax at) = reason.Syntax at
-placed (place.Depth at) = reason.Depth at
-placed (place.Items at) = reason.Items at
+abbrev pub reason_of_place : PlaceFault → Reason
+reason_of_place (place.Byte at) = reason.Byte at
+reason_of_place (place.Literal at) = reason.Literal at
+reason_of_place (place.LongName at) = reason.LongName at
+reason_of_place (place.Syntax at) = reason.Syntax at
+reason_of_place (place.Depth at) = reason.Depth at
+reason_of_place (place.Items at) = reason.Items at
 
 -- a session's name that is too long, which stands before all else of its line
 abbrev pub name_reasons : SessionName → List Reason
@@ -108,7 +108,7 @@ name_reasons session = when (not (is_short session)) (reason.LongName session.pl
 -- the fault of what stands where a statement is written, if it has one
 abbrev pub statement_reasons : Result StmtTree PlaceFault → List Reason
 statement_reasons (Ok tree) = []
-statement_reasons (Err fault) = placed fault ∷ []
+statement_reasons (Err fault) = reason_of_place fault ∷ []
 
 -- the place faults of a line, the lowest place first
 abbrev pub place_reasons : LineForm → List Reason

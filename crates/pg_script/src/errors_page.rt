@@ -1,4 +1,5 @@
-//! The examples of `docs/errors.md`, as far as reading tells their answers. `tools/page_tests --write` makes this file.
+//! The examples of `docs/errors.md`, as far as reading tells their answers. `tools/page_tests
+//! --write` makes this file.
 
 /// Scripts with what reading them answers, in the order of the page.
 pub(crate) const EXAMPLES: &str = "\

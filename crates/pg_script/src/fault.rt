@@ -2,8 +2,9 @@
 use pg_model::SqlError;
 use std::alloc::AllocError;
 
-/// Why a line of a script is refused. Of several reasons the first one here counts, and of the faults that have a place
-/// in the line the one at the lowest place. Places count the bytes of the line from 1.
+/// Why a line of a script is refused. Of several reasons the first one here counts, and of the
+/// faults that have a place in the line the one at the lowest place. Places count the bytes of the
+/// line from 1.
 #[derive(Debug, Drop)]
 pub enum Reason {
     /// The script is longer than 1,048,576 bytes; told of line 0.
@@ -41,7 +42,8 @@ pub enum Reason {
 /// What kept bytes from being read as a script.
 #[derive(Debug, Drop)]
 pub enum ScriptFault {
-    /// The first refused line, counted from 1, or 0 for the whole script, and the first reason to refuse it.
+    /// The first refused line, counted from 1, or 0 for the whole script, and the first reason to
+    /// refuse it.
     Refused { line: u32, reason: Reason },
     /// The reading did not get the memory that it needs.
     Memory,

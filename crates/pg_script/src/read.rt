@@ -101,7 +101,8 @@ fn read_body(alloc: Global, mode: Mode, text: Option<&[u8]>) -> Result<Script, S
     }
 }
 
-/// Reads the bytes of a script: the script that they say, or the first line that is refused and the first reason.
+/// Reads the bytes of a script: the script that they say, or the first line that is refused and the
+/// first reason.
 #[tactic(auto, using(crate::proofs::Answering::body_read, crate::proofs::Says::headless))]
 pub fn read_script(alloc: Global, bytes: &[u8]) -> Result<Script, ScriptFault>
     ensures { IsRead bytes.now result }

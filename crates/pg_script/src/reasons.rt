@@ -5,7 +5,7 @@ ghost use Rattle.pg_model.specs.Limits.{most_sessions};
 ghost use Rattle.pg_script.specs.Built.{is_later as says_later, is_later_statement as says_later_statement, is_short as is_short_name};
 ghost use Rattle.pg_script.specs.Drafts.{early_reasons, first_of, is_other as is_other_line, named_by, with_names};
 ghost use Rattle.pg_script.specs.Parts.{session_names};
-ghost use Rattle.pg_script.specs.Reasons.{is_misplaced as is_misplaced_line, is_of_session as may_be_given, is_of_setup as may_be_setup, is_plain_insert as is_a_plain_insert, is_setup as is_setup_line, is_unknown as is_unknown_line, name_reasons, orders_steps as line_orders_steps, place_reasons, placed as placed_reason, statement_reasons};
+ghost use Rattle.pg_script.specs.Reasons.{is_misplaced as is_misplaced_line, is_of_session as may_be_given, is_of_setup as may_be_setup, is_plain_insert as is_a_plain_insert, is_setup as is_setup_line, is_unknown as is_unknown_line, name_reasons, orders_steps as line_orders_steps, place_reasons, reason_of_place as placed_reason, statement_reasons};
 
 use crate::draft::Draft;
 use crate::fault::Reason;
@@ -208,7 +208,8 @@ fn place_reason(form: &LineForm) -> Option<Reason>
     }
 }
 
-/// The first reason to refuse a line behind those of a draft, as far as it is told without analysis.
+/// The first reason to refuse a line behind those of a draft, as far as it is told without
+/// analysis.
 pub(crate) fn early_reason(draft: &Draft, form: &LineForm) -> Option<Reason>
     ensures { result ≡ first_of (early_reasons draft.now form.now) }
 {

@@ -1,8 +1,9 @@
 //! Scripts with what reading them answers, worked out by hand from the rules.
 //!
-//! A table is a text of one row a line, since tables of tuples take many times as long to prove. `told` says how a row
-//! writes a script and its answer. Of the errors of analysis two need several sources, which are not built: that a table
-//! name is specified more than once, and that a column reference is ambiguous.
+//! A table is a text of one row a line, since tables of tuples take many times as long to prove.
+//! `told` says how a row writes a script and its answer. Of the errors of analysis two need several
+//! sources, which are not built: that a table name is specified more than once, and that a column
+//! reference is ambiguous.
 use super::*;
 use crate::errors_page::EXAMPLES;
 use crate::told::{parts, script_of, told};
@@ -43,8 +44,9 @@ rc 3 free => line 1: header
 a: SELECT => line 1: header
 rc 4 stepped // hello => line 1: header";
 
-/// Lines of a form that is not built, of none, and in a place that is not theirs. As long as `pause`, `go` and `cut` are
-/// not built, `later` comes before `free`, unless the name of the session is too long.
+/// Lines of a form that is not built, of none, and in a place that is not theirs. As long as
+/// `pause`, `go` and `cut` are not built, `later` comes before `free`, unless the name of the
+/// session is too long.
 const FORMS: &str = "rc 1 stepped // setup: CREATE TABLE t (k integer PRIMARY KEY) => line 2: later
 rc 1 stepped // setup: CREATE TABLE t (k integer UNIQUE) => line 2: later
 rc 1 stepped // setup: CREATE TABLE t (k integer NOT NULL) => line 2: later
@@ -360,8 +362,8 @@ create table T (x integer, x text) => 42P07 relation \"t\" already exists
 CREATE TABLE u (k integer, v text, K bigint) => 42701 column \"k\" specified more than once
 CREATE TABLE u (k integer, v text, v text, k text) => 42701 column \"v\" specified more than once";
 
-/// Scripts with their parts: the mode, the sessions and the tables, and line by line what setup stores, as how many rows
-/// into which columns of which table, and what a session is given.
+/// Scripts with their parts: the mode, the sessions and the tables, and line by line what setup
+/// stores, as how many rows into which columns of which table, and what a session is given.
 const PARTS: &str = "rc 1 stepped => stepped
 rc 1 free // # // \t //  => free
 rc 1 stepped // setup: CREATE TABLE t (k integer) => stepped, table t k integer
@@ -417,8 +419,8 @@ fn first_wrong(alloc: Global, table: &str) -> Result<Option<(&str, String)>, All
     Ok(None)
 }
 
-/// The answer to a statement behind the table, on a line that begins so, unless it is what is wanted; `before` stands
-/// before its error.
+/// The answer to a statement behind the table, on a line that begins so, unless it is what is
+/// wanted; `before` stands before its error.
 fn is_analysed_otherwise(
     alloc: Global,
     begin: &str,
@@ -434,8 +436,8 @@ fn is_analysed_otherwise(
     answers_otherwise(alloc, row.as_str(), wanted.as_str())
 }
 
-/// The first statement of a table that is not analysed as its row says, and the answer. Given to a session, the script
-/// is read and the line has the error.
+/// The first statement of a table that is not analysed as its row says, and the answer. Given to a
+/// session, the script is read and the line has the error.
 fn first_wrong_of_session(
     alloc: Global,
     table: &str,
@@ -449,8 +451,8 @@ fn first_wrong_of_session(
     Ok(None)
 }
 
-/// The first statement of a table that is not analysed as its row says, and the answer. On a setup line the error
-/// refuses the line.
+/// The first statement of a table that is not analysed as its row says, and the answer. On a setup
+/// line the error refuses the line.
 fn first_wrong_of_setup(alloc: Global, table: &str) -> Result<Option<(&str, String)>, AllocError> {
     for row in table.lines() {
         let (statement, wanted) = cut(row)?;

@@ -168,7 +168,8 @@ fn reading(alloc: Global, script: &Script) -> Result<Vec<u8>, AllocError> {
     Ok(text)
 }
 
-/// What a table writes for the answer to a script: the refused line with the reason, or `read` and the lines with errors.
+/// What a table writes for the answer to a script: the refused line with the reason, or `read` and
+/// the lines with errors.
 pub(crate) fn told(
     alloc: Global,
     answer: Result<Script, ScriptFault>,

@@ -6,7 +6,8 @@ use std::marker::Model;
 use std::ops::Deref;
 use std::sync::Arc;
 
-/// A value that never changes and may have several owners, in any threads. Contracts see it as the value.
+/// A value that never changes and may have several owners, in any threads. Contracts see it as the
+/// value.
 ///
 /// A copy is one more owner: it takes no memory, and no longer than the copy of a number.
 #[derive(Drop)]

@@ -15,6 +15,7 @@ use Rattle.pg_values.specs.Truth.{and_truths, or_truths, not_truth}
 abbrev pub AndMirrorsOr : Type 0
 AndMirrorsOr = (a b : Option Bool) → not_truth (and_truths a b) ≡ or_truths (not_truth a) (not_truth b)
 
+-- and the other way round
 abbrev pub OrMirrorsAnd : Type 0
 OrMirrorsAnd = (a b : Option Bool) → not_truth (or_truths a b) ≡ and_truths (not_truth a) (not_truth b)
 

@@ -44,21 +44,27 @@ quotient a b = if int_eq b (pos 0) then None else Some (int_div a b)
 abbrev pub rest : ℤ → ℤ → Option ℤ
 rest a b = if int_eq b (pos 0) then None else Some (int_rem a b)
 
+-- the sum of two values
 abbrev pub add_values : Value → Value → Result Value NumberFault
 add_values = on_numbers (λ a b. Some (a +ℤ b))
 
+-- the difference of two values
 abbrev pub subtract_values : Value → Value → Result Value NumberFault
 subtract_values = on_numbers (λ a b. Some (a -ℤ b))
 
+-- the product of two values
 abbrev pub multiply_values : Value → Value → Result Value NumberFault
 multiply_values = on_numbers (λ a b. Some (a *ℤ b))
 
+-- the quotient of two values, truncated toward zero
 abbrev pub divide_values : Value → Value → Result Value NumberFault
 divide_values = on_numbers quotient
 
+-- what the division of two values leaves
 abbrev pub remainder_values : Value → Value → Result Value NumberFault
 remainder_values = on_numbers rest
 
+-- a number with the other sign, in the kind that it has
 abbrev pub negate_value : Value → Result Value NumberFault
 negate_value (Int a) = int_value (neg_ℤ a)
 negate_value (Big a) = big_value (neg_ℤ a)

@@ -15,6 +15,7 @@ or_truths _ (Some true) = Some true
 or_truths (Some false) (Some false) = Some false
 or_truths _ _ = None
 
+-- true and false exchanged
 abbrev pub not_truth : Option Bool → Option Bool
 not_truth (Some true) = Some false
 not_truth (Some false) = Some true

@@ -4,8 +4,9 @@ ghost use Rattle.pg_values.specs.Fit.{fit_value};
 use crate::number::NumberFault;
 use crate::value::{Kind, Value};
 
-/// The value as a column of the kind stores it: an integer widens to bigint, and a bigint narrows to
-/// integer, with `IntRange` where 32 bits do not hold it. A value without a form in the kind is NULL.
+/// The value as a column of the kind stores it: an integer widens to bigint, and a bigint narrows
+/// to integer, with `IntRange` where 32 bits do not hold it. A value without a form in the kind is
+/// NULL.
 pub fn fit(value: Value, kind: Kind) -> Result<Value, NumberFault>
     ensures { result ≡ fit_value value kind }
 {

@@ -38,13 +38,15 @@ fn of_one_kind(a: &Value, b: &Value) -> Operands
 }
 
 fn int_value(number: Option<i32>) -> Result<Value, NumberFault>
-    ensures { MatchOption number (result ≡ Err NumberFault.IntRange) (λ n. result ≡ Ok (Value.Int n)) }
+    ensures { MatchOption number (result ≡ Err NumberFault.IntRange)
+        (λ n. result ≡ Ok (Value.Int n)) }
 {
     Ok(Value::Int(number.ok_or(NumberFault::IntRange)?))
 }
 
 fn big_value(number: Option<i64>) -> Result<Value, NumberFault>
-    ensures { MatchOption number (result ≡ Err NumberFault.BigRange) (λ n. result ≡ Ok (Value.Big n)) }
+    ensures { MatchOption number (result ≡ Err NumberFault.BigRange)
+        (λ n. result ≡ Ok (Value.Big n)) }
 {
     Ok(Value::Big(number.ok_or(NumberFault::BigRange)?))
 }

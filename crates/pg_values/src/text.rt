@@ -28,6 +28,7 @@ impl Text {
     /// The most bytes that a text value has.
     pub const MAX_LEN: usize = 4096;
 
+    /// The text of these bytes; `AllocError` where there is no room for them.
     pub fn from_slice(alloc: Global, bytes: &[u8]) -> Result<Text, AllocError>
         requires { length bytes.now ≤ 4096 }
         ensures { IfOk result (λ text. text ≡ bytes.now) }
@@ -36,6 +37,7 @@ impl Text {
         Ok(Text { bytes })
     }
 
+    /// The bytes of the text.
     pub fn as_slice(&self) -> &[u8]
         ensures bytes { result.now ≡ self.now }
         ensures bounded { length self.now ≤ 4096 }
@@ -51,6 +53,7 @@ impl Text {
         self.bytes.len()
     }
 
+    /// Whether the text has no byte.
     pub fn is_empty(&self) -> bool
         ensures { IsTrue result ↔ (length self.now ≡ 0) }
     {
@@ -68,6 +71,7 @@ impl Text {
         Ok(Text { bytes })
     }
 
+    /// The same text once more; `AllocError` where there is no room for it.
     pub fn copy(&self, alloc: Global) -> Result<Text, AllocError>
         ensures { IfOk result (λ text. text ≡ self.now) }
     {
