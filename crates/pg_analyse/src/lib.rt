@@ -13,8 +13,6 @@ mod queries;
 mod scope;
 mod statements;
 mod tables;
-#[cfg(test)]
-mod tests;
 
 pub use built::{is_built_declaration, is_built_statement};
 pub use declarations::declare;

@@ -1,6 +1,9 @@
-pub mod Numbers
-pub mod Newest
-pub mod Steps
+pub mod Places
+pub mod Opened
+pub mod Setups
 pub mod Taken
 pub mod Settling
 pub mod Next
+pub mod Counted
+pub mod Steps
+pub mod Tying

@@ -1,16 +1,15 @@
 -- The session that moves next is one of the script's and can move; there is none where each has ended.
-use Rattle.std.proofs.Common.{◌≡◌, ◌<◌, ◌↔◌, ◌&&◌, ℕ, Bool, true, false, not, nat_lt, All, IfSome, length, Option, Some, None, refl, sym, ◌∙◌, arith}
+use Rattle.std.proofs.Common.{◌≡◌, ◌<◌, ◌↔◌, ◌&&◌, ℕ, Bool, true, false, not, nat_lt, IfSome, length, Option, Some, None, refl, sym, ◌∙◌, arith}
 use Rattle.std.proofs.lemmas.Bool.Decides.{nat_tests}
-use Rattle.pg_first_path.specs.declared.script.Script.{Script}
-use Rattle.pg_first_path.specs.declared.world.Progress.{Progress}
-use Rattle.pg_first_path.specs.declared.world.Progress.TheVariants.{Idle, Inside, Closed}
-use Rattle.pg_first_path.specs.declared.world.World.{World}
-use Rattle.pg_first_path.specs.Sound.{IsSound}
-use Rattle.pg_first_path.specs.Stepped.{Schedule, is_closed, next_session, settled}
-use Rattle.pg_first_path.proofs.Lists.{all_at, all_each}
-use Rattle.pg_first_path.proofs.Schedules.{closed_none, next_can_move, next_within, none_closed}
+use Rattle.pg_model.specs.declared.script.Script.{Script}
+use Rattle.pg_world.specs.declared.session.Progress.{Progress}
+use Rattle.pg_world.specs.declared.session.Progress.TheVariants.{Idle, Inside, Ending, Closed}
+use Rattle.pg_world.specs.Worlds.{World}
+use Rattle.pg_relation.specs.Sound.{IsSound}
+use Rattle.pg_relation.specs.Laws.{AreClosed}
+use Rattle.pg_relation.specs.Schedules.{Schedule, is_closed, next_session, settled_schedule}
+use Rattle.pg_relation.proofs.Schedules.{closed_none, next_can_move, next_within, none_closed}
 use Rattle.pg_board.specs.Board.{BoardView, has_ended, waits_for_lines}
-use Rattle.pg_board.proofs.Settling.{closed_is, is_closed_of}
 
 -- it is one of the script's
 pub next_in_script : (script : Script) (world : World) (schedule : Schedule) (next : Option ℕ) → IsSound script world →
@@ -22,6 +21,7 @@ next_in_script script world schedule (Some session) sound is =
 not_closed : (p : Progress) → (p ≡ Closed → ⊥) → is_closed p ≡ false
 not_closed Idle unended = refl
 not_closed (Inside running) unended = refl
+not_closed (Ending tag) unended = refl
 not_closed Closed unended = absurd (unended refl)
 
 waits_not : (more idle queued : Bool) → (more ≡ true → idle ≡ true → queued ≡ true) → (more && (idle && not queued)) ≡ false
@@ -35,23 +35,17 @@ less_of m n is = grind (arith, nat_tests, is)
 
 -- once lines are taken until a session is ready, it waits for none, and it has not ended
 pub next_free : (board : BoardView) (next : Option ℕ) → next ≡ next_session board.script board.world board.schedule →
-    IfSome next (λ session. (waits_for_lines (record board { schedule = settled board.script board.world board.schedule }) session ≡ false)
-    × (has_ended (record board { schedule = settled board.script board.world board.schedule }) session ≡ false))
+    IfSome next (λ session. (waits_for_lines (record board { schedule = settled_schedule board.script board.world board.schedule }) session ≡ false)
+    × (has_ended (record board { schedule = settled_schedule board.script board.world board.schedule }) session ≡ false))
 next_free board None is = tt
 next_free board (Some session) is =
     let r = next_can_move board.script board.world board.schedule session (sym is) in
-    rw r.is (waits_not _ _ _ (λ more. r.has_line (less_of _ _ more)), not_closed r.x.progress r.unended)
+    rw r.is (waits_not _ _ _ (λ more. r.has_line (less_of _ _ more)), not_closed r.session.progress r.unended)
 
 -- there is none exactly where each session has ended
 pub next_none : (script : Script) (world : World) (schedule : Schedule) (next : Option ℕ) →
-    next ≡ next_session script world schedule →
-    (next ≡ None) ↔ All (λ x. is_closed x.progress ≡ true) world.sessions
-next_none script world schedule next is = (ended, none)
-  where
-    ended : next ≡ None → All (λ x. is_closed x.progress ≡ true) world.sessions
-    ended e = all_each (λ x. is_closed x.progress ≡ true) world.sessions
-        (λ session x there. is_closed_of x.progress (none_closed script world schedule session x (sym is ∙ e) there))
-
-    none : All (λ x. is_closed x.progress ≡ true) world.sessions → next ≡ None
-    none all = is ∙ closed_none script world schedule
-        (λ session x there. closed_is x.progress (all_at (λ y. is_closed y.progress ≡ true) world.sessions session x all there))
+    next ≡ next_session script world schedule → (next ≡ None) ↔ AreClosed world
+next_none script world schedule next is = (
+  λ e number session there. none_closed script world schedule number session (sym is ∙ e) there,
+  λ all. is ∙ closed_none script world schedule all,
+)

@@ -1,4 +1,5 @@
-pub mod Room
 pub mod Queues
+pub mod Counts
+pub mod Faults
 pub mod Tied
 pub mod Board

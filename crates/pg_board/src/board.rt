@@ -1,18 +1,23 @@
-ghost use Rattle.std.specs.Prelude.{◌≡◌, ◌≢◌, ◌↔◌, ◌<◌, ◌+◌, All, IfErr, IfOk, IfSome, IsTrue, false, OnErr, None, OnOk, Some, length, nat_lt, true};
-ghost use Rattle.pg_first_path.specs.Journals.{IsLegal, world_after};
-ghost use Rattle.pg_first_path.specs.Moves.{moves_of};
-ghost use Rattle.pg_first_path.specs.Rows.{tables_of};
-ghost use Rattle.pg_first_path.specs.Stepped.{first_of_list, is_closed, next_session, ready, settled};
+ghost use Rattle.std.specs.Prelude.{◌≡◌, ◌≢◌, ◌↔◌, ◌<◌, ◌+◌, IfErr, IfOk, IfSome, IsTrue, false, OnErr, None, OnOk, Some, length, nat_lt, true};
+ghost use Rattle.pg_relation.specs.Journals.{IsLegal, world_after};
+ghost use Rattle.pg_relation.specs.Laws.{AreClosed};
+ghost use Rattle.pg_relation.specs.Moves.{moves_of};
+ghost use Rattle.pg_relation.specs.Printed.{tables_of};
+ghost use Rattle.pg_relation.specs.Schedules.{line_taken, next_session, ready, settled_schedule};
+ghost use Rattle.pg_relation.specs.Stepped.{first_of_list};
 ghost use Rattle.pg_board.specs.Board.{MovedBy, first_board, has_ended, is_unqueued, waits_for_lines};
+ghost use Rattle.pg_board.specs.Faults.{IsFaultOf, IsSetUp};
 
 use crate::effects::perform_next;
-use crate::first::new_world;
+use crate::fault::BoardFault;
 use crate::moves::next_act;
-use crate::queues::{Queue, enqueue, line_of, new_queues, session_at};
-use crate::rows::copy_tables;
-use crate::schedule::{has_queued, ready_session, remaining_session, stands_idle};
-use pg_first_path::{Entry, EntryAct, Finished, Script, World};
+use crate::queues::{Queue, enqueue, new_queues, session_at, statement_of};
+use crate::rows::committed_tables;
+use crate::schedule::{has_queued, ready_session, remaining_session, stands_closed, stands_idle};
+use crate::server::Server;
+use crate::setup::new_server;
 use pg_lists::{Items, TryCopy};
+use pg_model::{Entry, EntryAct, Finished, Script};
 use std::alloc::{AllocError, Global};
 use std::marker::Model;
 
@@ -30,41 +35,53 @@ pub enum Step {
 }
 
 /// All sessions of a script, with their journal so far and the world that it leaves.
-#[derive(Debug, Drop)]
+#[derive(Drop)]
 pub struct Board {
     alloc: Global,
     script: Script,
     journal: Vec<Entry>,
-    world: World,
+    server: Server,
     queues: Items<Queue>,
     taken: usize,
     last: Option<u32>,
 }
 
 impl Model for Board {
+    ghost use Rattle.std.specs.Coded.{codes};
+    ghost use Rattle.pg_model.specs.contracts.script.Script as script_of;
     ghost use Rattle.pg_board.specs.Board.{BoardView};
     ghost use Rattle.pg_board.specs.Tied.{IsTied};
 
     ghost Value = { BoardView };
 
-    ghost view = { λ b. record { script = b.script; journal = b.journal.items; world = b.world; schedule = record { taken = b.taken; last = b.last } } };
+    ghost coded = { Prim.hlevel (codes, script_of.the_row.coded) };
 
-    ghost invariant = { λ b. IsTied b.script b.journal.items b.world b.queues b.taken };
+    ghost view = { λ b. record {
+      script = b.script;
+      journal = b.journal.items;
+      world = b.server;
+      schedule = record { taken = b.taken; last = b.last };
+    } };
+
+    ghost invariant = { λ b. IsTied b.script b.journal.items b.server b.queues b.taken };
 }
 
 impl Board {
-    /// A board of the script: an empty journal, and the world after setup.
-    pub fn new(alloc: Global, script: &Script) -> Result<Board, AllocError>
-        ensures { IfOk result (λ board. board ≡ first_board script.now) }
+    /// A board of the script: an empty journal, and the world after setup; or the first error that
+    /// a setup INSERT raises.
+    pub fn new(alloc: Global, script: &Script) -> Result<Board, BoardFault>
+        ensures first { IfOk result (λ board. board ≡ first_board script.now) }
+        ensures set_up { OnOk result (IsSetUp script.now) }
+        ensures fault { IfErr result (IsFaultOf script.now) }
     {
-        let world = new_world(alloc, script)?;
+        let server = new_server(alloc, script)?;
         let queues = new_queues(alloc, script)?;
         let script = script.try_copy(alloc)?;
         Ok(Board {
             alloc,
             script,
             journal: Vec::new(alloc),
-            world,
+            server,
             queues,
             taken: 0,
             last: None,
@@ -73,7 +90,8 @@ impl Board {
 
     /// The script that the board keeps.
     pub fn script(&self) -> &Script
-        ensures { result.now ≡ self.now.script }
+        ensures script { result.now ≡ self.now.script }
+        ensures set_up { IsSetUp self.now.script }
     {
         &self.script
     }
@@ -99,12 +117,15 @@ impl Board {
         ensures legal { IsLegal self.new.script self.new.journal }
         ensures reached { self.new.world ≡ world_after self.new.script self.new.journal }
     {
-        let untaken = self.taken < self.script.lines.as_slice().len();
+        let untaken = self.taken < self.script.lines.len();
         if untaken && self.has_empty_queue(session) {
             return Step::Idle;
         }
-        let Some(act) = self.next_act(session) else {
+        if self.has_ended(session) {
             return Step::Closed;
+        }
+        let Ok(act) = self.next_act(session) else {
+            return Step::Memory;
         };
         match self.advance(session, act) {
             Ok(()) => Step::Moved,
@@ -112,30 +133,34 @@ impl Board {
         }
     }
 
-    /// Takes lines until a session is ready, and answers the session that moves next, or `None` where
-    /// each has ended. A `step` of that session moves it, unless there is no memory.
+    /// Takes lines until a session is ready, and answers the session that moves next, or `None`
+    /// where each has ended. A `step` of that session moves it, unless there is no memory.
     pub fn next(&mut self) -> Option<u32>
         ensures session { result ≡ next_session self.old.script self.old.world self.old.schedule }
-        ensures schedule { self.new ≡ record self.old { schedule = settled self.old.script self.old.world self.old.schedule } }
+        ensures schedule { self.new ≡ record self.old {
+          schedule = settled_schedule self.old.script self.old.world self.old.schedule;
+        } }
 
         ensures within { IfSome result (λ session. session < length self.new.script.sessions) }
-        ensures can_move { IfSome result (λ session. (waits_for_lines self.new session ≡ false) × (has_ended self.new session ≡ false)) }
-        ensures ended { (result ≡ None) ↔ All (λ x. is_closed x.progress ≡ true) self.old.world.sessions }
+        ensures can_move { IfSome result (λ session.
+            (waits_for_lines self.new session ≡ false) × (has_ended self.new session ≡ false)) }
+        ensures ended { (result ≡ None) ↔ AreClosed self.old.world }
     {
         self.settle();
-        self.ready().or(remaining_session(&self.world))
+        self.ready().or(remaining_session(&self.server))
     }
 
-    /// Ends a run in which every session is closed: its journal, and the committed rows of each table.
+    /// Ends a run in which every session is closed: its journal, and the committed rows of each
+    /// table.
     ///
     /// For want of memory the board comes back as it was.
     pub fn finish(self) -> Result<Finished, (Board, AllocError)>
-        requires { All (λ x. is_closed x.progress ≡ true) self.world.sessions }
+        requires { AreClosed self.world }
         ensures journal { IfOk result (λ finished. finished.journal ≡ self.journal) }
         ensures tables { IfOk result (λ finished. finished.tables ≡ tables_of self.world) }
         ensures err { IfErr result (λ refused. refused.0 ≡ self) }
     {
-        match copy_tables(self.alloc, &self.world) {
+        match committed_tables(self.alloc, &self.server) {
             Ok(tables) => {
                 let Board { journal, .. } = self;
                 Ok(Finished {
@@ -148,42 +173,53 @@ impl Board {
     }
 
     /// Whether the session is between statements without a queued line.
-    fn has_empty_queue(&self, session: u32) -> bool
-        requires { session < length self.now.script.sessions }
-        ensures { result ≡ is_unqueued self.now session }
+    fn has_empty_queue(&self, number: u32) -> bool
+        requires { number < length self.now.script.sessions }
+        ensures { result ≡ is_unqueued self.now number }
     {
-        let Some(x) = self.world.sessions.get(session as usize) else {
-            return false;
-        };
-        stands_idle(x) && !has_queued(self.queues.as_slice(), session as usize, x)
+        let session = &self.server.sessions.as_slice()[number as usize];
+        stands_idle(session) && !has_queued(self.queues.as_slice(), number as usize, session)
+    }
+
+    /// Whether the session has ended.
+    fn has_ended(&self, number: u32) -> bool
+        requires { number < length self.now.script.sessions }
+        ensures { result ≡ has_ended self.now number }
+    {
+        stands_closed(&self.server.sessions.as_slice()[number as usize])
     }
 
     /// Whether a line of the script is not taken yet.
     fn has_untaken(&self) -> bool
         ensures { result ≡ nat_lt self.now.schedule.taken (length self.now.script.lines) }
     {
-        self.taken < self.script.lines.as_slice().len()
+        self.taken < self.script.lines.len()
     }
 
-    /// The first act that is permitted to a session, or `None` where it has ended.
-    #[tactic(auto, using(crate::proofs::Settling::ended_moves))]
-    fn next_act(&self, session: u32) -> Option<EntryAct>
-        requires { session < length self.now.script.sessions }
-        ensures first { result ≡ first_of_list (moves_of self.now.script self.now.world session) }
-        ensures ended { IsTrue (has_ended self.now session) ↔ (result ≡ None) }
+    /// The first act that is permitted to a session that has not ended.
+    #[tactic(auto, using(crate::proofs::Tying::has_move))]
+    fn next_act(&self, number: u32) -> Result<EntryAct, AllocError>
+        requires within { number < length self.now.script.sessions }
+        requires unended { has_ended self.now number ≡ false }
+        ensures { IfOk result (λ act.
+            first_of_list (moves_of self.now.script self.now.world number) ≡ Some act) }
     {
-        let x = self.world.sessions.get(session as usize)?;
-        let queue = self.queues.get(session as usize)?;
-        let line = line_of(&self.script, queue, session, x);
-        next_act(self.alloc, &self.world, x, line)
+        let session = &self.server.sessions.as_slice()[number as usize];
+        let queue = &self.queues.as_slice()[number as usize];
+        let given = statement_of(&self.script, queue, number, session);
+        match next_act(self.alloc, &self.server, session, given)? {
+            Some(act) => Ok(act),
+            None => unreachable!(),
+        }
     }
 
     /// Adds the entry of a permitted act, and makes of the world what it makes of it.
-    #[tactic(auto, using(crate::proofs::Steps::has_room, crate::proofs::Steps::has_room_in))]
-    fn advance(&mut self, session: u32, act: EntryAct) -> Result<(), AllocError>
-        requires session { session < length self.old.script.sessions }
-        requires first { first_of_list (moves_of self.old.script self.old.world session) ≡ Some act }
-        ensures ok { OnOk result (MovedBy session self.old self.new) }
+    #[tactic(auto, using(crate::proofs::Tying::can_make))]
+    fn advance(&mut self, number: u32, act: EntryAct) -> Result<(), AllocError>
+        requires within { number < length self.old.script.sessions }
+        requires first { first_of_list (moves_of self.old.script self.old.world number)
+            ≡ Some act }
+        ensures ok { OnOk result (MovedBy number self.old self.new) }
         ensures err { OnErr result (self.new ≡ self.old) }
         ensures legal { IsLegal self.new.script self.new.journal }
         ensures reached { self.new.world ≡ world_after self.new.script self.new.journal }
@@ -194,12 +230,15 @@ impl Board {
             self.alloc,
             &self.script,
             queues,
-            &mut self.world,
-            session,
+            &mut self.server,
+            number,
             &act,
         )?;
-        self.journal.push_reserved(Entry { session, act });
-        self.last = Some(session);
+        self.journal.push_reserved(Entry {
+            session: number,
+            act,
+        });
+        self.last = Some(number);
         Ok(())
     }
 
@@ -208,13 +247,15 @@ impl Board {
     fn ready(&self) -> Option<u32>
         ensures { result ≡ ready self.now.script self.now.world self.now.schedule }
     {
-        ready_session(&self.world, self.queues.as_slice(), self.last)
+        ready_session(&self.server, self.queues.as_slice(), self.last)
     }
 
     /// Takes lines until a session is ready or no line is left.
     #[tactic(auto, using(crate::proofs::Settling::settled_at_end, crate::proofs::Settling::settled_at_ready, crate::proofs::Settling::settled_on))]
     fn settle(&mut self)
-        ensures { self.new ≡ record self.old { schedule = settled self.old.script self.old.world self.old.schedule } }
+        ensures { self.new ≡ record self.old {
+          schedule = settled_schedule self.old.script self.old.world self.old.schedule;
+        } }
     {
         while self.has_untaken() && self.ready().is_none() {
             self.take_line();
@@ -225,10 +266,10 @@ impl Board {
     #[tactic(auto, using(crate::proofs::Taken::queues_next, crate::proofs::Taken::taken_bound))]
     fn take_line(&mut self)
         requires { self.old.schedule.taken < length self.old.script.lines }
-        ensures { self.new ≡ record self.old { schedule = record self.old.schedule { taken = self.old.schedule.taken + 1 } } }
+        ensures { self.new ≡ record self.old { schedule = line_taken self.old.schedule } }
     {
-        let session = session_at(&self.script, self.taken);
-        enqueue(&mut self.queues, session);
+        let number = session_at(&self.script, self.taken);
+        enqueue(&mut self.queues, number);
         self.taken += 1;
     }
 }

@@ -4,12 +4,15 @@
 
 mod board;
 mod effects;
-mod first;
+mod ends;
+mod fault;
 mod moves;
 mod queues;
 mod rows;
 mod schedule;
-#[cfg(test)]
-mod tests;
+mod server;
+mod setup;
+mod snapshots;
 
 pub use board::{Board, Step};
+pub use fault::BoardFault;

@@ -13,6 +13,3 @@ pub use form::{Label, LineForm, PlaceFault, SessionName};
 pub use laws::{each_form_is_within, each_line_has_at_most_one_form};
 pub use read::read_line;
 pub use word::{Piece, next_word};
-
-#[cfg(test)]
-mod tests;

@@ -9,12 +9,8 @@ mod list;
 mod merge;
 mod place;
 mod select;
-#[cfg(test)]
-mod shown;
 mod source;
 mod statement;
-#[cfg(test)]
-mod tests;
 mod tree;
 mod update;
 mod word;

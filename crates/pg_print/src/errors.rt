@@ -1,9 +1,10 @@
 // The state and the text of an error; each function that puts appends one.
-ghost use Rattle.std.specs.Prelude.{◌≡◌, ◌++◌, OnOk, codes};
+ghost use Rattle.std.specs.Prelude.{◌≡◌, ◌++◌, IfOk, OnOk, codes};
 ghost use Rattle.pg_model.specs.Errors.{counted_text, error_state, error_text, quoted_name};
 
+use pg_lists::Items;
 use pg_model::{Counted, SqlError};
-use std::alloc::AllocError;
+use std::alloc::{AllocError, Global};
 
 /// The five digits and letters of an error's state.
 fn state_of(error: &SqlError) -> &[u8]
@@ -113,4 +114,14 @@ pub fn put_error(out: &mut Vec<u8>, between: &[u8], error: &SqlError) -> Result<
     out.extend_from_slice(state_of(error))?;
     out.extend_from_slice(between)?;
     put_error_text(out, error)
+}
+
+/// An error in words: its state, a space and its text. Refuses for want of memory alone.
+pub fn write_error(alloc: Global, error: &SqlError) -> Result<Items<u8>, AllocError>
+    ensures { IfOk result (λ text. text
+        ≡ error_state error.now ++ codes " " ++ error_text error.now) }
+{
+    let mut out = Vec::new(alloc);
+    put_error(&mut out, b" ", error)?;
+    Ok(Items::from_vec(out))
 }

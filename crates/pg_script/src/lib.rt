@@ -3,18 +3,12 @@
 
 mod add;
 mod draft;
-#[cfg(test)]
-mod errors_page;
 mod fault;
 mod heading;
 mod laws;
 mod lines;
 mod read;
 mod reasons;
-#[cfg(test)]
-mod tests;
-#[cfg(test)]
-mod told;
 
 pub use fault::{Reason, ScriptFault};
 pub use laws::{bytes_are_refused_once, bytes_say_one_script, no_script_is_refused};

@@ -1,5 +1,4 @@
-pub mod WordLemmas
-pub mod Drafts
-pub mod Replaying
-pub mod Telling
 pub mod Fronts
+pub mod TurnedAway
+pub mod Outcomes
+pub mod Answered

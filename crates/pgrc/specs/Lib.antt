@@ -1,6 +1,5 @@
-pub mod Words
-pub mod Forms
-pub mod Reading
 pub mod Commands
-pub mod Headline
+pub mod Statuses
+pub mod Refusals
 pub mod Prepared
+pub mod Answers

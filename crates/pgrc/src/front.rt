@@ -1,21 +1,13 @@
-ghost use Rattle.std.specs.Prelude.{◌≡◌, ◌≢◌, ◌↔◌, ◌⊎◌, ◌≤◌, ◌+◌, ℕ, Err, IfOk, IfErr, List, Ok, Some, false, true};
-ghost use Rattle.std.specs.Io.KnownBytes.{Appends};
-ghost use Rattle.pg_first_path.specs.Scripts.{most_bytes};
-ghost use Rattle.pg_outside.specs.Causes.{Rose};
-ghost use Rattle.pg_outside.specs.Reads.{ReadsFront};
-ghost use Rattle.pg_outside.specs.Writes.{AppendsFront};
-ghost use Rattle.pgrc.specs.Commands.{IsCalm, IsTold, TellsRefusal, is_command as is_one_command, status_text};
-ghost use Rattle.pgrc.specs.Headline.{Headline, IsCutShort, IsEmpty};
-ghost use Rattle.pgrc.specs.Prepared.{fault_text, status_at};
-ghost use Rattle.pgrc.specs.Reading.{reading};
-ghost use Rattle.pgrc.specs.declared.draft.Draft.{Draft};
-ghost use Rattle.pgrc.specs.declared.script_fault.Refusal.{Refusal};
+ghost use Rattle.std.specs.Prelude.{◌≡◌, ◌≤◌};
+ghost use Rattle.pgrc.specs.Answers.{IsAnswer, IsEmpty, outside};
+ghost use Rattle.pgrc.specs.Prepared.{IsWritten, fault_text, status_at};
+ghost use Rattle.pgrc.specs.Statuses.{IsTold, status_text};
 
-use crate::messages::{tell, tell_refusal};
+use crate::messages::tell;
 use crate::prepare::{Fault, Run, prepare};
 use crate::status::{Report, Status};
-use pg_first_path::Script;
 use pg_lists::Items;
+use pg_model::Script;
 use pg_outside::{Gate, Sink, Source, write_all};
 use std::alloc::Global;
 use std::sync::Wait;
@@ -34,31 +26,14 @@ pub fn top<R: Threads + Wait + Sync, S: Source, K: Sink, E: Sink, G: Gate + Sync
     errors: &mut E,
     _gate: &G,
 ) -> Report
-    ensures headline { result.status ≡ Status.Done → Headline (S.left source.old) (S.left source.new) (K.taken sink.old) (K.taken sink.new) result }
-
-    ensures usage { (result.status ≡ Status.Usage) ↔ (is_one_command words.now ≡ false) }
-    ensures unread { result.status ≡ Status.Usage → source.new ≡ source.old }
-    ensures refused { result.status ≡ Status.Refused → TellsRefusal (S.left source.old) (S.left source.new) (E.taken errors.old) (E.taken errors.new) (E.faults errors.old) (E.faults errors.new) }
-    // Whatever the status, at most one byte more is read than a script may have.
-    ensures short { ReadsFront (S.left source.old) (S.left source.new) (most_bytes + 1) }
-    ensures unreadable { result.status ≡ Status.ReadFault → Rose (S.faults source.old) (S.faults source.new) }
-    ensures cut { result.status ≡ Status.WriteFault → IsCutShort (S.left source.old) (S.left source.new) (K.taken sink.old) (K.taken sink.new) result }
-    ensures unwritable { result.status ≡ Status.WriteFault → Rose (K.faults sink.old) (K.faults sink.new) }
-
-    // Where nothing fails, a script is run and anything else is refused, unless memory is wanting.
-    ensures runs { (left : List ℕ) (draft : Draft) → S.left source.old ≡ Some left → reading left ≡ Ok draft
-        → is_one_command words.now ≡ true → IsCalm (S.faults source.old) (S.faults source.new) → IsCalm (K.faults sink.old) (K.faults sink.new)
-        → (result.status ≡ Status.Done) ⊎ (result.status ≡ Status.Memory) }
-    ensures refuses { (left : List ℕ) (refusal : Refusal) → S.left source.old ≡ Some left → reading left ≡ Err refusal
-        → is_one_command words.now ≡ true → IsCalm (S.faults source.old) (S.faults source.new)
-        → (result.status ≡ Status.Refused) ⊎ (result.status ≡ Status.Memory) }
-
-    ensures unwritten { result.status ≢ Status.Done → result.status ≢ Status.WriteFault → sink.new ≡ sink.old }
-    ensures empty { result.status ≢ Status.Done → result.status ≢ Status.WriteFault → IsEmpty result }
-    ensures told { result.status ≢ Status.Refused → IsTold (E.taken errors.old) (E.taken errors.new) (E.faults errors.old) (E.faults errors.new) (status_text result.status) }
-    ensures source_later { S.faults source.old ≤ S.faults source.new }
-    ensures sink_later { K.faults sink.old ≤ K.faults sink.new }
-    ensures errors_later { E.faults errors.old ≤ E.faults errors.new }
+    ensures { IsAnswer words.now
+        (outside source.old (S.left source.old) (S.faults source.old)
+        sink.old (K.taken sink.old) (K.faults sink.old)
+        (E.taken errors.old) (E.faults errors.old))
+        (outside source.new (S.left source.new) (S.faults source.new)
+        sink.new (K.taken sink.new) (K.faults sink.new)
+        (E.taken errors.new) (E.faults errors.new))
+        result }
 {
     replay_top(alloc, words, source, sink, errors)
 }
@@ -74,31 +49,14 @@ pub fn replay_top<S: Source, K: Sink, E: Sink>(
     sink: &mut K,
     errors: &mut E,
 ) -> Report
-    ensures headline { result.status ≡ Status.Done → Headline (S.left source.old) (S.left source.new) (K.taken sink.old) (K.taken sink.new) result }
-
-    ensures usage { (result.status ≡ Status.Usage) ↔ (is_one_command words.now ≡ false) }
-    ensures unread { result.status ≡ Status.Usage → source.new ≡ source.old }
-    ensures refused { result.status ≡ Status.Refused → TellsRefusal (S.left source.old) (S.left source.new) (E.taken errors.old) (E.taken errors.new) (E.faults errors.old) (E.faults errors.new) }
-    // Whatever the status, at most one byte more is read than a script may have.
-    ensures short { ReadsFront (S.left source.old) (S.left source.new) (most_bytes + 1) }
-    ensures unreadable { result.status ≡ Status.ReadFault → Rose (S.faults source.old) (S.faults source.new) }
-    ensures cut { result.status ≡ Status.WriteFault → IsCutShort (S.left source.old) (S.left source.new) (K.taken sink.old) (K.taken sink.new) result }
-    ensures unwritable { result.status ≡ Status.WriteFault → Rose (K.faults sink.old) (K.faults sink.new) }
-
-    // Where nothing fails, a script is run and anything else is refused, unless memory is wanting.
-    ensures runs { (left : List ℕ) (draft : Draft) → S.left source.old ≡ Some left → reading left ≡ Ok draft
-        → is_one_command words.now ≡ true → IsCalm (S.faults source.old) (S.faults source.new) → IsCalm (K.faults sink.old) (K.faults sink.new)
-        → (result.status ≡ Status.Done) ⊎ (result.status ≡ Status.Memory) }
-    ensures refuses { (left : List ℕ) (refusal : Refusal) → S.left source.old ≡ Some left → reading left ≡ Err refusal
-        → is_one_command words.now ≡ true → IsCalm (S.faults source.old) (S.faults source.new)
-        → (result.status ≡ Status.Refused) ⊎ (result.status ≡ Status.Memory) }
-
-    ensures unwritten { result.status ≢ Status.Done → result.status ≢ Status.WriteFault → sink.new ≡ sink.old }
-    ensures empty { result.status ≢ Status.Done → result.status ≢ Status.WriteFault → IsEmpty result }
-    ensures told { result.status ≢ Status.Refused → IsTold (E.taken errors.old) (E.taken errors.new) (E.faults errors.old) (E.faults errors.new) (status_text result.status) }
-    ensures source_later { S.faults source.old ≤ S.faults source.new }
-    ensures sink_later { K.faults sink.old ≤ K.faults sink.new }
-    ensures errors_later { E.faults errors.old ≤ E.faults errors.new }
+    ensures { IsAnswer words.now
+        (outside source.old (S.left source.old) (S.faults source.old)
+        sink.old (K.taken sink.old) (K.faults sink.old)
+        (E.taken errors.old) (E.faults errors.old))
+        (outside source.new (S.left source.new) (S.faults source.new)
+        sink.new (K.taken sink.new) (K.faults sink.new)
+        (E.taken errors.new) (E.faults errors.new))
+        result }
 {
     match prepare(alloc, words, source) {
         Ok(run) => deliver(run, sink, errors),
@@ -108,13 +66,12 @@ pub fn replay_top<S: Source, K: Sink, E: Sink>(
 
 /// Writes the text of a run.
 fn deliver<K: Sink, E: Sink>(run: Run, sink: &mut K, errors: &mut E) -> Report
-    ensures status { (result.status ≡ Status.Done) ⊎ (result.status ≡ Status.WriteFault) }
     ensures script { result.script ≡ run.script }
     ensures journal { result.journal ≡ run.journal }
-    ensures done { result.status ≡ Status.Done → Appends (K.taken sink.old) (K.taken sink.new) run.text }
-    ensures cut { result.status ≡ Status.WriteFault → AppendsFront (K.taken sink.old) (K.taken sink.new) run.text }
-    ensures unwritable { result.status ≡ Status.WriteFault → Rose (K.faults sink.old) (K.faults sink.new) }
-    ensures told { IsTold (E.taken errors.old) (E.taken errors.new) (E.faults errors.old) (E.faults errors.new) (status_text result.status) }
+    ensures written { IsWritten (K.taken sink.old) (K.taken sink.new)
+        (K.faults sink.old) (K.faults sink.new) run.text result.status }
+    ensures told { IsTold (E.taken errors.old) (E.taken errors.new)
+        (E.faults errors.old) (E.faults errors.new) (status_text result.status) }
     ensures sink_later { K.faults sink.old ≤ K.faults sink.new }
     ensures errors_later { E.faults errors.old ≤ E.faults errors.new }
 {
@@ -141,20 +98,21 @@ fn deliver<K: Sink, E: Sink>(run: Run, sink: &mut K, errors: &mut E) -> Report
 fn turn_away<E: Sink>(alloc: Global, fault: Fault, errors: &mut E) -> Report
     ensures status { result.status ≡ status_at fault }
     ensures empty { IsEmpty result }
-    ensures told { IsTold (E.taken errors.old) (E.taken errors.new) (E.faults errors.old) (E.faults errors.new) (fault_text fault) }
+    ensures told { IsTold (E.taken errors.old) (E.taken errors.new)
+        (E.faults errors.old) (E.faults errors.new) (fault_text fault) }
     ensures later { E.faults errors.old ≤ E.faults errors.new }
 {
     let status = match fault {
         Fault::Usage => {
-            tell(errors, b"usage: pgrc replay\n");
+            tell(errors, b"usage: pgrc replay, trace\n");
             Status::Usage
         }
         Fault::Memory => {
             tell(errors, b"out of memory\n");
             Status::Memory
         }
-        Fault::Refused(refusal) => {
-            tell_refusal(errors, refusal);
+        Fault::Refused(line) => {
+            tell(errors, line.as_slice());
             Status::Refused
         }
         Fault::Read => {

@@ -1,20 +1,16 @@
-//! The program: it replays a script of database sessions and prints their replies and the tables.
+//! The program: it replays a script of database sessions and prints their replies and the tables,
+//! or each step of the run.
 #![tactic(auto)]
 
 ghost use Rattle.std.specs.Prelude.{◌≡◌};
-ghost use Rattle.pgrc.specs.Commands.{exit_status as exit_status_of};
+ghost use Rattle.pgrc.specs.Statuses.{exit_status as exit_status_of};
 
-mod draft;
-mod forms;
+mod command;
 mod front;
 mod messages;
-mod names;
 mod prepare;
-mod read;
-mod replay;
-mod script_fault;
+mod refusals;
 mod status;
-mod words;
 
 use crate::front::top;
 use crate::messages::tell;

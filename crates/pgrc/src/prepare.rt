@@ -1,23 +1,30 @@
 // What is made of the words and the input, before anything is written.
-ghost use Rattle.std.specs.Prelude.{◌≡◌, ◌≢◌, ◌↔◌, ◌≤◌, ◌+◌, Err, IfErr, IfOk, false};
-ghost use Rattle.pg_first_path.specs.Printed.{printed};
-ghost use Rattle.pg_first_path.specs.Scripts.{most_bytes};
+ghost use Rattle.std.specs.Prelude.{◌≡◌, ◌≤◌, ◌+◌, Err, IfOk};
+ghost use Rattle.pg_model.specs.declared.script.Mode.TheVariants.{Stepped};
 ghost use Rattle.pg_outside.specs.Causes.{Rose};
 ghost use Rattle.pg_outside.specs.Reads.{ReadsFront};
-ghost use Rattle.pgrc.specs.Commands.{is_command as is_one_command};
-ghost use Rattle.pgrc.specs.Prepared.{IfRefused, IsMade, IsRunOf, ReadsTo};
+ghost use Rattle.pg_relation.specs.Journals.{world_after};
+ghost use Rattle.pg_relation.specs.Printed.{tables_of};
+ghost use Rattle.pg_script.specs.Reading.{most_bytes};
+ghost use Rattle.pgrc.specs.Commands.{text_of as text_of_run};
+ghost use Rattle.pgrc.specs.Prepared.{IsInput, IsOutcome, IsPrepared, IsReading, IsRefusal};
 
-use crate::read::{MOST_BYTES, read_script};
-use crate::replay::replay;
-use crate::script_fault::{Refusal, ScriptFault};
-use pg_first_path::{Journal, Script};
-use pg_first_print::print;
+use crate::command::{Command, command_of};
+use crate::refusals::refusal_line;
+use pg_board::BoardFault;
 use pg_lists::Items;
+use pg_model::{Finished, Journal, Mode, Script};
 use pg_outside::{ReadAll, Source, read_all};
+use pg_print::{journal_text, print};
+use pg_script::{Reason, ScriptFault, read_script};
+use pg_stepped::replay;
 use std::alloc::{AllocError, Global};
 
-/// A run of a script and its text.
-#[derive(Debug, Drop)]
+/// The most bytes of a script.
+const MOST_BYTES: usize = 1048576;
+
+/// A run of a script, and the text that is written of it.
+#[derive(Drop)]
 pub struct Run {
     pub script: Script,
     pub journal: Journal,
@@ -25,79 +32,108 @@ pub struct Run {
 }
 
 /// Why there is no run.
-#[derive(Clone, Copy, Debug, PartialEq, Eq)]
+#[derive(Debug, Drop)]
 pub enum Fault {
     /// The words are no command.
     Usage,
     /// Memory was refused.
     Memory,
-    /// The input is no script.
-    Refused(Refusal),
+    /// The input is not run; the line that says where and why.
+    Refused(Items<u8>),
     /// The source has failed.
     Read,
 }
 
 /// Reads the input of a command, and makes the run and the text of it.
-#[tactic(auto, using(crate::proofs::Fronts::reads_nothing))]
+#[tactic(auto, using(crate::proofs::Fronts::reads_nothing, crate::proofs::Outcomes::outcome_prepared))]
 pub fn prepare<S: Source>(alloc: Global, words: &[String], source: &mut S) -> Result<Run, Fault>
-    ensures made { IfOk result (IsMade (S.left source.old) (S.left source.new)) }
-    ensures refused { IfRefused (S.left source.old) (S.left source.new) result }
-    ensures usage { (result ≡ Err Fault.Usage) ↔ (is_one_command words.now ≡ false) }
+    ensures prepared { IsPrepared words.now (S.left source.old) (S.left source.new) result }
     ensures unread { result ≡ Err Fault.Usage → source.new ≡ source.old }
     ensures short { ReadsFront (S.left source.old) (S.left source.new) (most_bytes + 1) }
     ensures failed { result ≡ Err Fault.Read → Rose (S.faults source.old) (S.faults source.new) }
     ensures later { S.faults source.old ≤ S.faults source.new }
 {
-    if !is_command(words) {
+    let Some(command) = command_of(words) else {
         return Err(Fault::Usage);
-    }
-    let script = read_source(alloc, source)?;
-    match run_script(alloc, script) {
-        Ok(run) => Ok(run),
-        Err(_) => Err(Fault::Memory),
+    };
+    match read_source(alloc, source) {
+        Ok(script) => run_script(alloc, command, script),
+        Err(fault) => Err(fault),
     }
 }
 
-/// Whether the words are a command.
-fn is_command(words: &[String]) -> bool
-    ensures { result ≡ is_one_command words.now }
+/// Refuses a line for a reason.
+fn refuse(alloc: Global, line: u32, reason: &Reason) -> Fault
+    ensures { IsRefusal line reason.now result }
 {
-    match words {
-        [word] => word.as_str() == "replay",
-        _ => false,
+    match refusal_line(alloc, line, reason) {
+        Ok(text) => Fault::Refused(text),
+        Err(_) => Fault::Memory,
     }
 }
 
 /// Reads the script that a source gives.
 fn read_source<S: Source>(alloc: Global, source: &mut S) -> Result<Script, Fault>
-    ensures script { IfOk result (ReadsTo (S.left source.old) (S.left source.new)) }
-    ensures refused { IfRefused (S.left source.old) (S.left source.new) result }
-    ensures usage { result ≢ Err Fault.Usage }
+    ensures input { IsInput (S.left source.old) (S.left source.new) result }
     ensures short { ReadsFront (S.left source.old) (S.left source.new) (most_bytes + 1) }
     ensures failed { result ≡ Err Fault.Read → Rose (S.faults source.old) (S.faults source.new) }
     ensures later { S.faults source.old ≤ S.faults source.new }
 {
-    let bytes = match read_all(alloc, source, MOST_BYTES) {
-        ReadAll::All(bytes) | ReadAll::TooLong(bytes) => bytes,
-        ReadAll::Failed => return Err(Fault::Read),
-        ReadAll::Memory => return Err(Fault::Memory),
-    };
-    match read_script(alloc, bytes.as_slice()) {
-        Ok(script) => Ok(script),
-        Err(ScriptFault::Refused(refusal)) => Err(Fault::Refused(refusal)),
+    match read_all(alloc, source, MOST_BYTES) {
+        ReadAll::All(bytes) | ReadAll::TooLong(bytes) => read_stepped(alloc, bytes.as_slice()),
+        ReadAll::Failed => Err(Fault::Read),
+        ReadAll::Memory => Err(Fault::Memory),
+    }
+}
+
+/// Reads bytes as a stepped script.
+#[tactic(auto, using(crate::proofs::TurnedAway::refused_by_reader))]
+fn read_stepped(alloc: Global, bytes: &[u8]) -> Result<Script, Fault>
+    ensures { IsReading bytes.now result }
+{
+    match read_script(alloc, bytes) {
+        Ok(script) => match script.mode {
+            Mode::Stepped => Ok(script),
+            Mode::Free => Err(refuse(alloc, 1, &Reason::Free)),
+        },
+        Err(ScriptFault::Refused { line, reason }) => Err(refuse(alloc, line, &reason)),
         Err(ScriptFault::Memory) => Err(Fault::Memory),
     }
 }
 
-/// Replays a script, and makes the text of the run.
-fn run_script(alloc: Global, script: Script) -> Result<Run, AllocError>
-    ensures { IfOk result (IsRunOf script) }
+/// Runs a script, and makes the text that a command writes of it.
+fn run_script(alloc: Global, command: Command, script: Script) -> Result<Run, Fault>
+    requires { script.mode ≡ Stepped }
+    ensures { IsOutcome command script result }
 {
-    let finished = replay(alloc, &script)?;
-    let text = print(alloc, &script, &finished)?;
-    Ok(Run {
-        script,
-        journal: finished.journal,
-        text: Items::from_vec(text),
-    })
+    match replay(alloc, &script) {
+        Ok(finished) => match text_of(alloc, command, &script, &finished) {
+            Ok(text) => Ok(Run {
+                script,
+                journal: finished.journal,
+                text,
+            }),
+            Err(_) => Err(Fault::Memory),
+        },
+        Err(BoardFault::Setup { line, error }) => {
+            Err(refuse(alloc, line, &Reason::Error(error)))
+        }
+        Err(BoardFault::Memory) => Err(Fault::Memory),
+    }
+}
+
+/// What a command writes of a run.
+fn text_of(
+    alloc: Global,
+    command: Command,
+    script: &Script,
+    finished: &Finished,
+) -> Result<Items<u8>, AllocError>
+    requires { finished.now.tables ≡ tables_of (world_after script.now finished.now.journal) }
+    ensures { IfOk result (λ text. text ≡ text_of_run command script.now finished.now.journal) }
+{
+    match command {
+        Command::Replay => print(alloc, script, finished),
+        Command::Trace => journal_text(alloc, script, finished.journal.as_slice()),
+    }
 }

@@ -1,4 +1,4 @@
-use pg_first_path::{Journal, Script};
+use pg_model::{Journal, Script};
 
 /// How a call of the program ended.
 #[derive(Clone, Copy, Debug, PartialEq, Eq)]
@@ -9,7 +9,7 @@ pub enum Status {
     Usage,
     /// Memory was refused, before anything was written.
     Memory,
-    /// The input is no script.
+    /// The input is no script, or one that is not run.
     Refused,
     /// The input could not be read to its end.
     ReadFault,
@@ -20,7 +20,7 @@ pub enum Status {
 /// What a call of the program did.
 ///
 /// The script and its journal are those of the run under `Done` and `WriteFault`, and empty else.
-#[derive(Debug, Drop)]
+#[derive(Drop)]
 pub struct Report {
     pub status: Status,
     pub script: Script,

@@ -10,6 +10,9 @@ const SCRIPT: &[u8] =
 
 const TEXT: &[u8] = b"a: INSERT 0 1\ntable t\n1|10\n";
 
+const TRACE: &[u8] =
+    b"a snapped 0\na found 1\na placed t 1\na inserted t 1\na committed\na replied INSERT 0 1\na closed\n";
+
 /// What a call comes to: its status, the bytes that the sink has taken, what is said of it, and how
 /// many entries the journal has.
 type Ending<'a> = (Status, &'a [u8], &'a [u8], usize);
@@ -80,23 +83,53 @@ fn a_source_that_fails_is_not_run(rt: HostRuntime) -> Result<(), Fail> {
 #[test]
 fn each_call_ends_as_its_words_and_input_say(rt: HostRuntime) -> Result<(), Fail> {
     let alloc = rt.alloc();
-    let usage: Ending<'_> = (Status::Usage, b"", b"usage: pgrc replay\n", 0);
-    let no_header: Ending<'_> = (Status::Refused, b"", b"line 1: header\n", 0);
-    let later: Ending<'_> = (Status::Refused, b"", b"line 3: later\n", 0);
-    let select =
-        b"rc 1 stepped\nsetup: CREATE TABLE t (k integer, v integer)\na: SELECT k FROM t\n";
-    let cases: [(&str, &[u8], Ending<'_>); 6] = [
+    let usage: Ending<'_> = (Status::Usage, b"", b"usage: pgrc replay, trace\n", 0);
+    let cases: [(&str, &[u8], Ending<'_>); 5] = [
         ("replay", SCRIPT, (Status::Done, TEXT, b"", 7)),
+        ("trace", SCRIPT, (Status::Done, TRACE, b"", 7)),
         ("", SCRIPT, usage),
         ("run", SCRIPT, usage),
-        ("replay replay", SCRIPT, usage),
-        ("replay", b"", no_header),
-        ("replay", select, later),
+        ("replay trace", SCRIPT, usage),
     ];
     for (line, script, want) in cases {
         let mut source = PlainBytes::new(alloc, script)?;
         let mut sink = Page::new(alloc, 1000, 1000, &[])?;
         compare(&rt, line, &mut source, &mut sink, want)?;
+    }
+    Ok(())
+}
+
+#[test]
+fn each_refusal_names_its_line(rt: HostRuntime) -> Result<(), Fail> {
+    let alloc = rt.alloc();
+    let cases: [(&[u8], &[u8]); 5] = [
+        (b"", b"line 1: header\n"),
+        (b"rc 1 free\n", b"line 1: free\n"),
+        (
+            b"rc 1 stepped\na: SELECT FROM t\n",
+            b"line 2: syntax at 11\n",
+        ),
+        (
+            b"rc 1 stepped\nsetup: INSERT INTO t VALUES (1)\n",
+            b"line 2: 42P01 relation \"t\" does not exist\n",
+        ),
+        (
+            b"rc 1 stepped\nsetup: CREATE TABLE t (k integer)\nsetup: INSERT INTO t VALUES (1 / 0)\n",
+            b"line 3: 22012 division by zero\n",
+        ),
+    ];
+    for (script, said) in cases {
+        for line in ["replay", "trace"] {
+            let mut source = PlainBytes::new(alloc, script)?;
+            let mut sink = Page::new(alloc, 1000, 1000, &[])?;
+            compare(
+                &rt,
+                line,
+                &mut source,
+                &mut sink,
+                (Status::Refused, b"", said, 0),
+            )?;
+        }
     }
     Ok(())
 }

@@ -1,9 +1,9 @@
 -- No session so far is it.
 use Rattle.std.proofs.Common.{◌≡◌, drop}
-use Rattle.pg_first_path.specs.Stepped.{is_idle, lowest}
+use Rattle.pg_relation.specs.Schedules.{is_idle, lowest}
 use Rattle.pg_board.proofs.schedule.lowest_idle.Given as goal
 
-abbrev pub invariant-loop-session : goal.invariant-loop-session
-invariant-loop-session l =
-    lowest (λ session x. is_idle x.progress) l.session (drop l.session l.sessions)
-    ≡ lowest (λ session x. is_idle x.progress) 0 l.sessions
+abbrev pub invariant-loop-number : goal.invariant-loop-number
+invariant-loop-number l =
+    lowest (λ number session. is_idle session.progress) l.number (drop l.number l.sessions)
+    ≡ lowest (λ number session. is_idle session.progress) 0 l.sessions

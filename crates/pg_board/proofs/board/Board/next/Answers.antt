@@ -1,5 +1,5 @@
 use Rattle.std.proofs.Common.{rules, ◌∙◌, subst}
-use Rattle.pg_first_path.specs.Sound.{IsSound}
+use Rattle.pg_relation.specs.Sound.{IsSound}
 use Rattle.pg_board.specs.Board.{BoardView}
 use Rattle.pg_board.proofs.Next.{next_free, next_in_script, next_none}
 use Rattle.pg_board.proofs.board.Board.next.Goals as goal

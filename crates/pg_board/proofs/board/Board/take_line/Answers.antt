@@ -1,8 +1,7 @@
 use Rattle.std.proofs.Common.{arith}
-use Rattle.pg_first_path.proofs.Sound.{script_limits}
 use Rattle.pg_board.proofs.Taken.{taken_bound}
 use Rattle.pg_board.proofs.board.Board.take_line.Goals as goal
 
 pub enqueue-requires : goal.enqueue-requires
 enqueue-requires c = λ queue there.
-    omega (arith, taken_bound c.self.inside.script c.self.inside.taken c.session_at-session.result c.self.inside.queues queue c.self.invariant.queues there, c.self.invariant.taken, (script_limits c.self.inside.script).1)
+    omega (arith, taken_bound c.self.inside.script c.self.inside.taken c.session_at-number.result c.self.inside.queues queue c.self.invariant.queues there, c.self.invariant.taken, c.self.inside.script.valid.few_lines)

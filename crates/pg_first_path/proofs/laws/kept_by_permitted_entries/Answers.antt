@@ -1,7 +1,0 @@
-use Rattle.std.proofs.Common.{◌≡◌, true}
-use Rattle.pg_first_path.specs.Worlds.{first_world}
-use Rattle.pg_first_path.proofs.Replies.{holds_from}
-use Rattle.pg_first_path.proofs.laws.kept_by_permitted_entries.Goals as goal
-
-pub returns : goal.returns
-returns c = λ script test kept journal legal. holds_from script (λ world. test world ≡ true) kept.kept (first_world script) journal kept.first legal

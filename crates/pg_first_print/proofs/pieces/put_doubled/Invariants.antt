@@ -1,7 +1,0 @@
--- The bytes to come make up what is wanted.
-use Rattle.std.proofs.Common.{◌≡◌, ◌++◌, drop}
-use Rattle.pg_first_path.specs.Printed.{quoted}
-use Rattle.pg_first_print.proofs.pieces.put_doubled.Given as goal
-
-abbrev pub invariant-loop-byte : goal.invariant-loop-byte
-invariant-loop-byte l = l.out.items ++ quoted (drop l.byte-index l.bytes) ≡ l.initial.out.items ++ quoted l.bytes

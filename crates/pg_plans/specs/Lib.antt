@@ -1,0 +1,3 @@
+pub mod Outcomes
+pub mod LentRows
+pub mod Next

@@ -1,0 +1,17 @@
+pub mod Lists
+pub mod Journals
+pub mod Needs
+pub mod Weight
+pub mod Sound
+pub mod Bounds
+pub mod Schedules
+pub mod Runs
+pub mod Replies
+pub mod Complete
+pub mod Worked
+pub mod Seen
+pub mod Owners
+pub mod Spares
+pub mod Stable
+pub mod Waiting
+pub mod Placing

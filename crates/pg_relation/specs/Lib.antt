@@ -1,0 +1,14 @@
+pub mod Lines
+pub mod Setup
+pub mod Moves
+pub mod Effect
+pub mod Journals
+pub mod Schedules
+pub mod Stepped
+pub mod Runs
+pub mod Printed
+pub mod Needs
+pub mod Weight
+pub mod Sound
+pub mod Laws
+pub mod Worked

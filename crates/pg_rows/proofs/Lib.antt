@@ -1,0 +1,10 @@
+pub mod Numbers
+pub mod Stored
+pub mod Chains
+pub mod Attached
+pub mod Reading
+pub mod Read
+pub mod Rows
+pub mod Unwound
+pub mod Ended
+pub mod Shown

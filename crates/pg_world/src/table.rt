@@ -1,0 +1,12 @@
+use crate::PlacedRow;
+use pg_heap::Row;
+use pg_lists::Items;
+
+/// A table.
+#[derive(Debug, Drop)]
+pub struct TableView {
+    /// A row for each number that it has drawn, in order of number.
+    pub rows: Items<Row>,
+    /// What is placed there.
+    pub placed: Items<PlacedRow>,
+}

@@ -1,0 +1,4 @@
+pub mod Transactions
+pub mod Snapshots
+pub mod Rising
+pub mod Kept
