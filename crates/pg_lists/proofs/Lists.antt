@@ -7,12 +7,6 @@ slice_set_same [] i x is = refl
 slice_set_same (y ∷ ys) zero x is = cc
 slice_set_same (y ∷ ys) (suc i) x is = ap (λ zs. y ∷ zs) (slice_set_same ys i x is)
 
--- nothing is written past the end
-pub slice_set_past : {X : Type 0} (xs : List X) (i : ℕ) (x : X) → slice_get xs i ≡ None → slice_set xs i x ≡ xs
-slice_set_past [] i x past = refl
-slice_set_past (y ∷ ys) zero x past = cc
-slice_set_past (y ∷ ys) (suc i) x past = ap (λ zs. y ∷ zs) (slice_set_past ys i x past)
-
 -- what each item is stays so with one item replaced
 pub replaced_each : {X : Type 0} (f : ℕ → X) (xs : List X) (place : ℕ) (x : X) →
     ((i : ℕ) → i < length xs → i ≢ place → slice_get xs i ≡ Some (f i)) → x ≡ f place →

@@ -329,9 +329,6 @@ module _ (slots : List Slot) (xact : ℕ) where
           was : old.state ≡ Settled
           was = sym (is.kept by) ∙ settled
 
-          old_is : is_version_of old.row (stored_slot old) ≡ true
-          old_is = rw (was, eq-eqb old.row old.row refl) refl
-
           -- a version before it is not the transaction's
           not_own : (k : ℕ) → k < m → passes (is_version_of old.row) (stored_slots slots) k ≡ true → (b : Bool) →
               is_number_written_by xact slots k ≡ b → b ≡ false
