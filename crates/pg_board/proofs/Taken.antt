@@ -48,7 +48,7 @@ lowest_same p q bound first (x ∷ xs) within same =
     (ap (λ o. cond (q first x) (Some first) o) (lowest_same p q bound (first + 1) xs (omega (arith, within)) same))
 
 -- what a queue shows of its session
-has_taken_is : (script : Script) (taken : ℕ) (queues : List Queue) (last : Option ℕ) (session : ℕ) (x : SessionView) →
+pub has_taken_is : (script : Script) (taken : ℕ) (queues : List Queue) (last : Option ℕ) (session : ℕ) (x : SessionView) →
     AreQueues script taken queues → session < length queues →
     has_taken queues session x ≡ is_queued script (record { taken = taken; last = last }) session x
 has_taken_is script taken queues last session x are within = rw (are.each session within) refl

@@ -1,5 +1,11 @@
+pub mod Shown
 pub mod Queues
 pub mod Counts
 pub mod Faults
+pub mod Servers
+pub mod Kept
+pub mod Machines
+pub mod Inside
+pub mod Steps
 pub mod Tied
 pub mod Board

@@ -1,30 +1,28 @@
-ghost use Rattle.std.specs.Prelude.{◌≡◌, ◌≢◌, ◌↔◌, ◌<◌, ◌+◌, IfErr, IfOk, IfSome, IsTrue, false, OnErr, None, OnOk, Some, length, nat_lt, true};
+ghost use Rattle.std.specs.Prelude.{◌≡◌, ◌≢◌, ◌↔◌, ◌<◌, ◌≤◌, IfErr, IfOk, IfSome, IsTrue, false, OnErr, None, OnOk, Some, length, nat_lt, true, ℕ};
 ghost use Rattle.pg_relation.specs.Journals.{IsLegal, world_after};
 ghost use Rattle.pg_relation.specs.Laws.{AreClosed};
-ghost use Rattle.pg_relation.specs.Moves.{moves_of};
 ghost use Rattle.pg_relation.specs.Printed.{tables_of};
 ghost use Rattle.pg_relation.specs.Schedules.{line_taken, next_session, ready, settled_schedule};
-ghost use Rattle.pg_relation.specs.Stepped.{first_of_list};
-ghost use Rattle.pg_board.specs.Board.{MovedBy, first_board, has_ended, is_unqueued, waits_for_lines};
+ghost use Rattle.pg_board.specs.Board.{MovedBy, first_board, has_ended, is_unqueued, most_quiet, quiet_left, waits_for_lines};
 ghost use Rattle.pg_board.specs.Faults.{IsFaultOf, IsSetUp};
 
-use crate::effects::perform_next;
 use crate::fault::BoardFault;
-use crate::moves::next_act;
-use crate::queues::{Queue, enqueue, new_queues, session_at, statement_of};
+use crate::queues::{Queue, enqueue, new_queues, session_at};
 use crate::rows::committed_tables;
 use crate::schedule::{has_queued, ready_session, remaining_session, stands_closed, stands_idle};
 use crate::server::Server;
 use crate::setup::new_server;
+use crate::step::step_session;
 use pg_lists::{Items, TryCopy};
-use pg_model::{Entry, EntryAct, Finished, Script};
+use pg_model::{Entry, Finished, Script};
 use std::alloc::{AllocError, Global};
 use std::marker::Model;
 
 /// What a step of a session came to.
 #[derive(Clone, Copy, Debug, PartialEq, Eq)]
 pub enum Step {
-    /// One entry was added to the journal.
+    /// The session has moved: one entry was added to the journal, or the session has come nearer to
+    /// its next entry.
     Moved,
     /// The session is between statements, its queue is empty and lines remain untaken.
     Idle,
@@ -49,7 +47,10 @@ pub struct Board {
 impl Model for Board {
     ghost use Rattle.std.specs.Coded.{codes};
     ghost use Rattle.pg_model.specs.contracts.script.Script as script_of;
+    ghost use Rattle.std.specs.Prelude.{map};
+    ghost use Rattle.pg_relation.specs.Journals.{world_after};
     ghost use Rattle.pg_board.specs.Board.{BoardView};
+    ghost use Rattle.pg_board.specs.Steps.{place_quiet};
     ghost use Rattle.pg_board.specs.Tied.{IsTied};
 
     ghost Value = { BoardView };
@@ -59,8 +60,9 @@ impl Model for Board {
     ghost view = { λ b. record {
       script = b.script;
       journal = b.journal.items;
-      world = b.server;
+      world = world_after b.script b.journal.items;
       schedule = record { taken = b.taken; last = b.last };
+      quiet = map (λ session. place_quiet b.server.tables session.place) b.server.sessions;
     } };
 
     ghost invariant = { λ b. IsTied b.script b.journal.items b.server b.queues b.taken };
@@ -101,6 +103,7 @@ impl Board {
         ensures entries { result.now ≡ self.now.journal }
         ensures legal { IsLegal self.now.script self.now.journal }
         ensures reached { self.now.world ≡ world_after self.now.script self.now.journal }
+        ensures bounded { (number : ℕ) → quiet_left self.now number ≤ most_quiet self.now number }
     {
         self.journal.as_slice()
     }
@@ -124,10 +127,7 @@ impl Board {
         if self.has_ended(session) {
             return Step::Closed;
         }
-        let Ok(act) = self.next_act(session) else {
-            return Step::Memory;
-        };
-        match self.advance(session, act) {
+        match self.advance(session) {
             Ok(()) => Step::Moved,
             Err(_) => Step::Memory,
         }
@@ -173,20 +173,22 @@ impl Board {
     }
 
     /// Whether the session is between statements without a queued line.
+    #[tactic(auto, using(crate::proofs::Tying::unqueued_is, crate::proofs::Tying::tied_count))]
     fn has_empty_queue(&self, number: u32) -> bool
         requires { number < length self.now.script.sessions }
         ensures { result ≡ is_unqueued self.now number }
     {
-        let session = &self.server.sessions.as_slice()[number as usize];
+        let session = self.server.session(number);
         stands_idle(session) && !has_queued(self.queues.as_slice(), number as usize, session)
     }
 
     /// Whether the session has ended.
+    #[tactic(auto, using(crate::proofs::Tying::ended_is, crate::proofs::Tying::tied_count))]
     fn has_ended(&self, number: u32) -> bool
         requires { number < length self.now.script.sessions }
         ensures { result ≡ has_ended self.now number }
     {
-        stands_closed(&self.server.sessions.as_slice()[number as usize])
+        stands_closed(self.server.session(number))
     }
 
     /// Whether a line of the script is not taken yet.
@@ -196,29 +198,11 @@ impl Board {
         self.taken < self.script.lines.len()
     }
 
-    /// The first act that is permitted to a session that has not ended.
-    #[tactic(auto, using(crate::proofs::Tying::has_move))]
-    fn next_act(&self, number: u32) -> Result<EntryAct, AllocError>
-        requires within { number < length self.now.script.sessions }
-        requires unended { has_ended self.now number ≡ false }
-        ensures { IfOk result (λ act.
-            first_of_list (moves_of self.now.script self.now.world number) ≡ Some act) }
-    {
-        let session = &self.server.sessions.as_slice()[number as usize];
-        let queue = &self.queues.as_slice()[number as usize];
-        let given = statement_of(&self.script, queue, number, session);
-        match next_act(self.alloc, &self.server, session, given)? {
-            Some(act) => Ok(act),
-            None => unreachable!(),
-        }
-    }
-
-    /// Adds the entry of a permitted act, and makes of the world what it makes of it.
-    #[tactic(auto, using(crate::proofs::Tying::can_make))]
-    fn advance(&mut self, number: u32, act: EntryAct) -> Result<(), AllocError>
+    /// Lets a session that has not ended make its next move, or come nearer to it.
+    #[tactic(auto, using(crate::proofs::Tying::tied_serves, crate::proofs::Tying::tied_count, crate::proofs::Tying::unended_in))]
+    fn advance(&mut self, number: u32) -> Result<(), AllocError>
         requires within { number < length self.old.script.sessions }
-        requires first { first_of_list (moves_of self.old.script self.old.world number)
-            ≡ Some act }
+        requires unended { has_ended self.old number ≡ false }
         ensures ok { OnOk result (MovedBy number self.old self.new) }
         ensures err { OnErr result (self.new ≡ self.old) }
         ensures legal { IsLegal self.new.script self.new.journal }
@@ -226,24 +210,19 @@ impl Board {
     {
         self.journal.reserve(1)?;
         let queues = self.queues.as_slice();
-        perform_next(
-            self.alloc,
-            &self.script,
-            queues,
-            &mut self.server,
-            number,
-            &act,
-        )?;
-        self.journal.push_reserved(Entry {
-            session: number,
-            act,
-        });
-        self.last = Some(number);
+        let acted = step_session(self.alloc, &self.script, queues, &mut self.server, number)?;
+        if let Some(act) = acted {
+            self.journal.push_reserved(Entry {
+                session: number,
+                act,
+            });
+            self.last = Some(number);
+        }
         Ok(())
     }
 
     /// The session that moves next without another line taken.
-    #[tactic(auto, using(crate::proofs::Taken::ready_by_queues))]
+    #[tactic(auto, using(crate::proofs::Tying::tied_ready))]
     fn ready(&self) -> Option<u32>
         ensures { result ≡ ready self.now.script self.now.world self.now.schedule }
     {

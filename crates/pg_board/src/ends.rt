@@ -1,19 +1,19 @@
-ghost use Rattle.std.specs.Prelude.{◌≡◌, ◌<◌, ◌-◌, ◌^◌, Some, length, option_map};
+ghost use Rattle.std.specs.Prelude.{◌≡◌, ◌<◌, Some, length, option_map};
+ghost use Rattle.pg_lists.specs.Numbered.{item_at};
+ghost use Rattle.pg_relation.specs.Effect.{block_after, block_failed};
 ghost use Rattle.pg_world.specs.Tables.{commit as to_commit, rollback as to_roll_back};
-ghost use Rattle.pg_world.specs.Worlds.{session_of, with_end_of};
-ghost use Rattle.pg_relation.specs.Effect.{at_session, block_after, block_failed, progress_ended, session_failed, session_replied, with_closure, with_commit, with_failure, with_reply, with_rollback, without_transaction};
-ghost use Rattle.pg_board.specs.Counts.{Runs, RunsIn};
+ghost use Rattle.pg_board.specs.Counts.{RunsIn};
+ghost use Rattle.pg_board.specs.Kept.{CanAnswer, RunsAt, at_kept, place_ended, server_closed, server_committed, server_failed, server_replied, server_rolled_back, session_left, with_end_in};
 
 use crate::server::Server;
+use crate::session::{Place, Session};
 use pg_model::Tag;
-use pg_world::{Block, Progress, SessionView};
+use pg_world::Block;
 
 /// The open transaction of a session.
 fn transaction_of(server: &Server, number: u32) -> Option<u32>
     requires { number < length server.now.sessions }
-    ensures each { (session : _) → session_of server.now number ≡ Some session →
-        session.transaction ≡ result }
-    ensures there { option_map (λ session. session.transaction) (session_of server.now number)
+    ensures { option_map (λ session. session.transaction) (item_at server.now.sessions number)
         ≡ Some result }
 {
     server.sessions.get(number as usize)?.transaction
@@ -21,9 +21,8 @@ fn transaction_of(server: &Server, number: u32) -> Option<u32>
 
 /// The transaction, where one is open, takes the next place in the commit order.
 fn commit_open(server: &mut Server, transaction: Option<u32>)
-    requires { RunsIn server.old.transactions transaction }
-    ensures end { server.new ≡ with_end_of server.old transaction to_commit }
-    ensures sessions { server.new.sessions ≡ server.old.sessions }
+    requires { RunsIn server.old.xacts transaction }
+    ensures { server.new ≡ with_end_in server.old transaction to_commit }
 {
     if let Some(xact) = transaction {
         server.xacts.commit(xact);
@@ -33,9 +32,8 @@ fn commit_open(server: &mut Server, transaction: Option<u32>)
 
 /// What the transaction did, where one is open, is undone.
 fn roll_back_open(server: &mut Server, transaction: Option<u32>)
-    requires { RunsIn server.old.transactions transaction }
-    ensures end { server.new ≡ with_end_of server.old transaction to_roll_back }
-    ensures sessions { server.new.sessions ≡ server.old.sessions }
+    requires { RunsIn server.old.xacts transaction }
+    ensures { server.new ≡ with_end_in server.old transaction to_roll_back }
 {
     if let Some(xact) = transaction {
         server.xacts.rollback(xact);
@@ -44,25 +42,23 @@ fn roll_back_open(server: &mut Server, transaction: Option<u32>)
 }
 
 /// The session has no transaction open; between statements it is then in its COMMIT or ROLLBACK.
-fn leave_transaction(session: &mut SessionView, tag: Tag)
-    ensures { session.new
-        ≡ without_transaction session.old (progress_ended tag session.old.progress) }
+fn leave_transaction(session: &mut Session, tag: Tag)
+    ensures { session.new ≡ session_left session.old (place_ended tag session.old.place) }
 {
     session.transaction = None;
     session.command = 0;
-    if matches!(session.progress, Progress::Idle) {
-        session.progress = Progress::Ending(tag);
+    if matches!(session.place, Place::Idle) {
+        session.place = Place::Ending(tag);
     }
 }
 
 /// The transaction of the session commits.
-#[tactic(auto, using(crate::proofs::Counted::runs_of))]
+#[tactic(auto, using(crate::proofs::Rooms::runs_of))]
 pub fn commit(server: &mut Server, number: u32)
     requires within { number < length server.old.sessions }
-    requires runs { (session : _) → session_of server.old number ≡ Some session →
-        Runs server.old session }
-    ensures { server.new ≡ at_session server.old number (λ session.
-        with_commit server.old number session) }
+    requires runs { RunsAt server.old number }
+    ensures { server.new ≡ at_kept server.old number (λ session.
+        server_committed server.old number session) }
 {
     let transaction = transaction_of(server, number);
     commit_open(server, transaction);
@@ -71,13 +67,12 @@ pub fn commit(server: &mut Server, number: u32)
 }
 
 /// The transaction of the session is rolled back.
-#[tactic(auto, using(crate::proofs::Counted::runs_of))]
+#[tactic(auto, using(crate::proofs::Rooms::runs_of))]
 pub fn roll_back(server: &mut Server, number: u32)
     requires within { number < length server.old.sessions }
-    requires runs { (session : _) → session_of server.old number ≡ Some session →
-        Runs server.old session }
-    ensures { server.new ≡ at_session server.old number (λ session.
-        with_rollback server.old number session) }
+    requires runs { RunsAt server.old number }
+    ensures { server.new ≡ at_kept server.old number (λ session.
+        server_rolled_back server.old number session) }
 {
     let transaction = transaction_of(server, number);
     roll_back_open(server, transaction);
@@ -99,15 +94,14 @@ fn block_after(tag: Tag, block: Block) -> Block
 /// The line has its reply.
 pub fn answer(server: &mut Server, number: u32, tag: Tag)
     requires within { number < length server.old.sessions }
-    requires room { (session : _) → session_of server.old number ≡ Some session →
-        session.answered < 2 ^ 64 - 1 }
-    ensures { server.new ≡ at_session server.old number (λ session.
-        with_reply server.old number session tag) }
+    requires answered { CanAnswer server.old number }
+    ensures { server.new ≡ at_kept server.old number (λ session.
+        server_replied server.old number session tag) }
 {
     let session = server.sessions.item_mut(number as usize);
     session.answered += 1;
     session.block = block_after(tag, session.block);
-    session.progress = Progress::Idle;
+    session.place = Place::Idle;
 }
 
 /// The block behind an error.
@@ -121,15 +115,13 @@ fn block_failed(block: Block) -> Block
 }
 
 /// The transaction of the session is rolled back, and the error is its line's reply.
-#[tactic(auto, using(crate::proofs::Counted::runs_of))]
+#[tactic(auto, using(crate::proofs::Rooms::runs_of))]
 pub fn fail(server: &mut Server, number: u32)
     requires within { number < length server.old.sessions }
-    requires room { (session : _) → session_of server.old number ≡ Some session →
-        session.answered < 2 ^ 64 - 1 }
-    requires runs { (session : _) → session_of server.old number ≡ Some session →
-        Runs server.old session }
-    ensures { server.new ≡ at_session server.old number (λ session.
-        with_failure server.old number session) }
+    requires answered { CanAnswer server.old number }
+    requires runs { RunsAt server.old number }
+    ensures { server.new ≡ at_kept server.old number (λ session.
+        server_failed server.old number session) }
 {
     let transaction = transaction_of(server, number);
     roll_back_open(server, transaction);
@@ -138,22 +130,21 @@ pub fn fail(server: &mut Server, number: u32)
     session.block = block_failed(session.block);
     session.transaction = None;
     session.command = 0;
-    session.progress = Progress::Idle;
+    session.place = Place::Idle;
 }
 
 /// The session ends, and its open transaction is rolled back.
-#[tactic(auto, using(crate::proofs::Counted::runs_of))]
+#[tactic(auto, using(crate::proofs::Rooms::runs_of))]
 pub fn close(server: &mut Server, number: u32)
     requires within { number < length server.old.sessions }
-    requires runs { (session : _) → session_of server.old number ≡ Some session →
-        Runs server.old session }
-    ensures { server.new ≡ at_session server.old number (λ session.
-        with_closure server.old number session) }
+    requires runs { RunsAt server.old number }
+    ensures { server.new ≡ at_kept server.old number (λ session.
+        server_closed server.old number session) }
 {
     let transaction = transaction_of(server, number);
     roll_back_open(server, transaction);
     let session = server.sessions.item_mut(number as usize);
     session.transaction = None;
     session.command = 0;
-    session.progress = Progress::Closed;
+    session.place = Place::Closed;
 }

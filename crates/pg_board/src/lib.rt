@@ -6,13 +6,18 @@ mod board;
 mod effects;
 mod ends;
 mod fault;
+mod inside;
+mod machines;
 mod moves;
 mod queues;
 mod rows;
 mod schedule;
 mod server;
+mod session;
 mod setup;
 mod snapshots;
+mod step;
+mod tables;
 
 pub use board::{Board, Step};
 pub use fault::BoardFault;

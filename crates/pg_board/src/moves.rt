@@ -1,17 +1,18 @@
 ghost use Rattle.std.specs.Prelude.{◌≡◌, IfOk, Some};
 ghost use Rattle.std.specs.Option.{option_copied};
-ghost use Rattle.pg_relation.specs.Moves.{beginning_moves, commit_moves, done_moves, ends_block, idle_moves, open_moves, rollback_moves, session_moves};
+ghost use Rattle.pg_relation.specs.Moves.{beginning_moves, commit_moves, ends_block, idle_moves, rollback_moves};
 ghost use Rattle.pg_relation.specs.Stepped.{first_of_list};
-ghost use Rattle.pg_plans.specs.Next.{drawn_next};
-ghost use Rattle.pg_world.specs.Replies.{bare_reply, reply_of};
+ghost use Rattle.pg_world.specs.Replies.{bare_reply};
 ghost use Rattle.pg_model.specs.declared.journal.EntryAct.TheVariants.{Replied};
+ghost use Rattle.pg_board.specs.Kept.{outside_moves};
+ghost use Rattle.pg_board.specs.Servers.{kept_session, kept_world};
 
 use crate::queues::Given;
 use crate::server::Server;
+use crate::session::{Place, Session};
 use pg_lists::{Items, TryCopy};
 use pg_model::{EntryAct, Reply, SqlError, Statement, Tag};
-use pg_plans::{Next, choice, reply, table_written};
-use pg_world::{Block, Progress, Running, SessionView};
+use pg_world::Block;
 use std::alloc::{AllocError, Global};
 
 /// The reply of BEGIN, COMMIT and ROLLBACK, which return no rows.
@@ -24,23 +25,22 @@ fn bare_reply(alloc: Global, tag: Tag) -> EntryAct
     })
 }
 
-/// The first act that is permitted to a session that stands at that statement, or `None` where none
-/// is.
-pub fn next_act(
+/// The first act that is permitted to a session between statements, or at the end of a COMMIT or
+/// ROLLBACK; or `None` where none is.
+pub fn outside_act(
     alloc: Global,
     server: &Server,
-    session: &SessionView,
+    session: &Session,
     given: Option<&Given>,
 ) -> Result<Option<EntryAct>, AllocError>
-    ensures { IfOk result (λ act.
-        act ≡ first_of_list (session_moves server.now session.now (option_copied given.entry)
-        session.now.progress)) }
+    ensures { IfOk result (λ act. act ≡ first_of_list
+        (outside_moves (kept_world server.now) (kept_session session.now)
+        (option_copied given.entry) session.now.place)) }
 {
-    match &session.progress {
-        Progress::Idle => Ok(Some(idle_act(alloc, server, session, given)?)),
-        Progress::Inside(running) => inside_act(alloc, server, session, running, given),
-        Progress::Ending(tag) => Ok(given.map(|_| bare_reply(alloc, *tag))),
-        Progress::Closed => Ok(None),
+    match &session.place {
+        Place::Idle => Ok(Some(idle_act(alloc, server, session, given)?)),
+        Place::Ending(tag) => Ok(given.map(|_| bare_reply(alloc, *tag))),
+        Place::Inside(_) | Place::Closed => Ok(None),
     }
 }
 
@@ -48,11 +48,12 @@ pub fn next_act(
 fn idle_act(
     alloc: Global,
     server: &Server,
-    session: &SessionView,
+    session: &Session,
     given: Option<&Given>,
 ) -> Result<EntryAct, AllocError>
     ensures { IfOk result (λ act.
-        first_of_list (idle_moves server.now session.now (option_copied given.entry)) ≡ Some act) }
+        first_of_list (idle_moves (kept_world server.now) (kept_session session.now)
+        (option_copied given.entry)) ≡ Some act) }
 {
     let Some(given) = given else {
         return Ok(EntryAct::Closed);
@@ -74,10 +75,11 @@ fn is_block_end(given: &Given) -> bool
 fn beginning_act(
     alloc: Global,
     server: &Server,
-    session: &SessionView,
+    session: &Session,
     given: &Given,
 ) -> Result<EntryAct, AllocError>
-    ensures { IfOk result (λ act. first_of_list (beginning_moves server.now session.now given.now)
+    ensures { IfOk result (λ act. first_of_list
+        (beginning_moves (kept_world server.now) (kept_session session.now) given.now)
         ≡ Some act) }
 {
     match given {
@@ -111,67 +113,5 @@ fn rollback_act(alloc: Global, transaction: Option<u32>) -> EntryAct
     match transaction {
         Some(_) => EntryAct::RolledBack,
         None => bare_reply(alloc, Tag::Rollback),
-    }
-}
-
-/// The act of a session inside a statement.
-fn inside_act(
-    alloc: Global,
-    server: &Server,
-    session: &SessionView,
-    running: &Running,
-    given: Option<&Given>,
-) -> Result<Option<EntryAct>, AllocError>
-    ensures { IfOk result (λ act.
-        act ≡ first_of_list (session_moves server.now session.now (option_copied given.entry)
-        (Progress.Inside running.now))) }
-{
-    match given {
-        Some(Ok(statement)) => Ok(Some(open_act(alloc, server, session, running, statement)?)),
-        Some(Err(_)) | None => Ok(None),
-    }
-}
-
-/// The act of an open statement.
-fn open_act(
-    alloc: Global,
-    server: &Server,
-    session: &SessionView,
-    running: &Running,
-    statement: &Statement,
-) -> Result<EntryAct, AllocError>
-    ensures { IfOk result (λ act.
-        first_of_list (open_moves server.now session.now running.now statement.now) ≡ Some act) }
-{
-    let next = next_row(server, table_written(statement));
-    match choice(statement, next, running) {
-        Some(Next::Does(act)) => Ok(act),
-        Some(Next::Fails(error)) => Ok(EntryAct::Failed(error.try_copy(alloc)?)),
-        None => done_act(alloc, session, running, statement),
-    }
-}
-
-/// The row number that a table draws next, if there is such a table.
-fn next_row(server: &Server, table: Option<u32>) -> Option<u64>
-    ensures { result ≡ drawn_next server.now.tables table }
-{
-    let table = server.tables.get(table? as usize)?;
-    Some(table.next_row())
-}
-
-/// The act of a statement that is done.
-fn done_act(
-    alloc: Global,
-    session: &SessionView,
-    running: &Running,
-    statement: &Statement,
-) -> Result<EntryAct, AllocError>
-    ensures { IfOk result (λ act.
-        first_of_list (done_moves session.now.block session.now.transaction
-        (reply_of statement.now running.now)) ≡ Some act) }
-{
-    match session.block {
-        Block::NoBlock if session.transaction.is_some() => Ok(EntryAct::Committed),
-        _ => Ok(EntryAct::Replied(reply(alloc, statement, running)?)),
     }
 }

@@ -3,13 +3,13 @@ ghost use Rattle.std.specs.Option.{option_copied};
 ghost use Rattle.pg_lists.specs.Numbered.{with_changed_item, item_at};
 ghost use Rattle.pg_model.specs.Scripts.{session_in};
 ghost use Rattle.pg_relation.specs.Lines.{given_to, statement_at};
-ghost use Rattle.pg_world.specs.Worlds.{session_of};
 ghost use Rattle.pg_board.specs.Queues.{AreQueues, given_at, places_of, queue_of, queued_more};
+ghost use Rattle.pg_board.specs.Servers.{kept_session};
 
 use crate::server::Server;
+use crate::session::Session;
 use pg_lists::Items;
 use pg_model::{Content, Line, Script, SqlError, Statement};
-use pg_world::SessionView;
 use std::alloc::{AllocError, Global};
 
 /// What a line gives its session: a statement, or the first error that its analysis found.
@@ -83,10 +83,10 @@ pub fn statement_of<'a>(
     script: &'a Script,
     queue: &Queue,
     number: u32,
-    session: &SessionView,
+    session: &Session,
 ) -> Option<&'a Given>
     requires { queue.now.places ≡ places_of number 0 script.now.lines }
-    ensures { option_copied result ≡ statement_at script.now number session.now }
+    ensures { option_copied result ≡ statement_at script.now number (kept_session session.now) }
 {
     let place = queue.places.get(session.answered as usize)?;
     statement_from(script, *place, number)
@@ -102,8 +102,8 @@ pub fn statement_in<'a>(
     requires queue { IfSome (item_at queues.now number) (λ queue.
         queue.places ≡ places_of number 0 script.now.lines) }
     requires there { number < length queues.now }
-    ensures { (session : _) → session_of server.now number ≡ Some session →
-        option_copied result ≡ statement_at script.now number session }
+    ensures { (session : _) → item_at server.now.sessions number ≡ Some session →
+        option_copied result ≡ statement_at script.now number (kept_session session) }
 {
     let session = server.sessions.get(number as usize)?;
     let queue = &queues[number as usize];

@@ -1,35 +1,36 @@
-ghost use Rattle.std.specs.Prelude.{◌≡◌, ◌≤◌, ◌<◌, ◌&&◌, IsTrue, None, length, true};
+ghost use Rattle.std.specs.Prelude.{◌≡◌, ◌≤◌, ◌<◌, ◌&&◌, IsTrue, None, length, map, true};
 ghost use Rattle.pg_relation.specs.Schedules.{continuing, is_closed, is_idle, is_inside, lowest, remaining};
 ghost use Rattle.pg_board.specs.Queues.{has_taken, ready_by};
+ghost use Rattle.pg_board.specs.Servers.{kept_progress, kept_session, kept_world};
 
 use crate::queues::Queue;
 use crate::server::Server;
-use pg_world::{Progress, SessionView};
+use crate::session::{Place, Session};
 
 /// Whether the session is between two statements.
-pub fn stands_idle(session: &SessionView) -> bool
-    ensures { result ≡ is_idle session.now.progress }
+pub fn stands_idle(session: &Session) -> bool
+    ensures { result ≡ is_idle (kept_progress session.now.place) }
 {
-    matches!(session.progress, Progress::Idle)
+    matches!(session.place, Place::Idle)
 }
 
 /// Whether the session has ended.
-pub fn stands_closed(session: &SessionView) -> bool
-    ensures { result ≡ is_closed session.now.progress }
+pub fn stands_closed(session: &Session) -> bool
+    ensures { result ≡ is_closed (kept_progress session.now.place) }
 {
-    matches!(session.progress, Progress::Closed)
+    matches!(session.place, Place::Closed)
 }
 
 /// Whether the session is inside a statement.
-fn stands_inside(session: &SessionView) -> bool
-    ensures { result ≡ is_inside session.now.progress }
+fn stands_inside(session: &Session) -> bool
+    ensures { result ≡ is_inside (kept_progress session.now.place) }
 {
-    matches!(session.progress, Progress::Inside(_) | Progress::Ending(_))
+    matches!(session.place, Place::Inside(_) | Place::Ending(_))
 }
 
 /// The session that moved last, where it is inside a statement.
 fn continuing_session(server: &Server, last: Option<u32>) -> Option<u32>
-    ensures { result ≡ continuing server.now last }
+    ensures { result ≡ continuing (kept_world server.now) last }
 {
     let number = last?;
     let session = server.sessions.get(number as usize)?;
@@ -41,9 +42,10 @@ fn continuing_session(server: &Server, last: Option<u32>) -> Option<u32>
 }
 
 /// The lowest session between two statements.
-fn lowest_idle(sessions: &[SessionView]) -> Option<u32>
+fn lowest_idle(sessions: &[Session]) -> Option<u32>
     requires { length sessions.now ≤ 32 }
-    ensures { result ≡ lowest (λ number session. is_idle session.progress) 0 sessions.now }
+    ensures { result ≡ lowest (λ number session. is_idle session.progress) 0
+        (map kept_session sessions.now) }
 {
     for (number, session) in sessions.iter().enumerate() {
         if stands_idle(session) {
@@ -54,9 +56,10 @@ fn lowest_idle(sessions: &[SessionView]) -> Option<u32>
 }
 
 /// The lowest session inside a statement.
-fn lowest_inside(sessions: &[SessionView]) -> Option<u32>
+fn lowest_inside(sessions: &[Session]) -> Option<u32>
     requires { length sessions.now ≤ 32 }
-    ensures { result ≡ lowest (λ number session. is_inside session.progress) 0 sessions.now }
+    ensures { result ≡ lowest (λ number session. is_inside session.progress) 0
+        (map kept_session sessions.now) }
 {
     for (number, session) in sessions.iter().enumerate() {
         if stands_inside(session) {
@@ -67,8 +70,8 @@ fn lowest_inside(sessions: &[SessionView]) -> Option<u32>
 }
 
 /// Whether a line of the session was taken that has no reply yet.
-pub fn has_queued(queues: &[Queue], number: usize, session: &SessionView) -> bool
-    ensures { result ≡ has_taken queues.now number session.now }
+pub fn has_queued(queues: &[Queue], number: usize, session: &Session) -> bool
+    ensures { result ≡ has_taken queues.now number (kept_session session.now) }
 {
     match queues.get(number) {
         Some(queue) => session.answered < queue.taken as u64,
@@ -77,10 +80,11 @@ pub fn has_queued(queues: &[Queue], number: usize, session: &SessionView) -> boo
 }
 
 /// The lowest session between two statements that has a queued line.
-fn lowest_queued(sessions: &[SessionView], queues: &[Queue]) -> Option<u32>
+fn lowest_queued(sessions: &[Session], queues: &[Queue]) -> Option<u32>
     requires { length sessions.now ≤ 32 }
     ensures { result ≡ lowest (λ number session.
-        is_idle session.progress && has_taken queues.now number session) 0 sessions.now }
+        is_idle session.progress && has_taken queues.now number session) 0
+        (map kept_session sessions.now) }
 {
     for (number, session) in sessions.iter().enumerate() {
         if stands_idle(session) && has_queued(queues, number, session) {
@@ -93,7 +97,7 @@ fn lowest_queued(sessions: &[SessionView], queues: &[Queue]) -> Option<u32>
 /// The session that moves next without another line taken.
 pub fn ready_session(server: &Server, queues: &[Queue], last: Option<u32>) -> Option<u32>
     requires { length server.now.sessions ≤ 32 }
-    ensures { result ≡ ready_by queues.now server.now last }
+    ensures { result ≡ ready_by queues.now (kept_world server.now) last }
 {
     match continuing_session(server, last) {
         Some(number) => Some(number),
@@ -104,7 +108,7 @@ pub fn ready_session(server: &Server, queues: &[Queue], last: Option<u32>) -> Op
 /// The session that moves next where no line is left to take.
 pub fn remaining_session(server: &Server) -> Option<u32>
     requires { length server.now.sessions ≤ 32 }
-    ensures { result ≡ remaining server.now }
+    ensures { result ≡ remaining (kept_world server.now) }
 {
     match lowest_idle(server.sessions.as_slice()) {
         Some(number) => Some(number),

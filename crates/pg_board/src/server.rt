@@ -1,25 +1,25 @@
+ghost use Rattle.std.specs.Prelude.{◌≡◌, ◌<◌, Some, length};
+ghost use Rattle.pg_lists.specs.Numbered.{item_at};
+
+use crate::session::Session;
 use pg_lists::Items;
 use pg_table::TableSet;
-use pg_world::SessionView;
 use pg_xacts::Xacts;
-use std::marker::Model;
 
-/// The tables, transactions and sessions as a journal leaves them: what contracts see as the world.
+/// The tables, transactions and sessions as a journal leaves them.
 #[derive(Drop)]
 pub struct Server {
     pub tables: TableSet,
     pub xacts: Xacts,
-    pub sessions: Items<SessionView>,
+    pub sessions: Items<Session>,
 }
 
-impl Model for Server {
-    ghost use Rattle.pg_world.specs.Worlds.{World};
-
-    ghost Value = { World };
-
-    ghost view = { λ s. record {
-      tables = s.tables;
-      transactions = s.xacts;
-      sessions = s.sessions;
-    } };
+impl Server {
+    /// The session of a number, counted from 0.
+    pub fn session(&self, number: u32) -> &Session
+        requires { number < length self.now.sessions }
+        ensures { item_at self.now.sessions number ≡ Some result.now }
+    {
+        &self.sessions.as_slice()[number as usize]
+    }
 }

@@ -10,8 +10,8 @@ use Rattle.pg_world.specs.Evaluation.{OrError, all_values, value_before}
 use Rattle.pg_world.specs.declared.candidate.SeenRow.{SeenRow}
 use Rattle.pg_values.specs.declared.value.Value.{Value}
 use Rattle.pg_plans.specs.LentRows.{all_lent_rows, lent_rows, output_candidates, output_candidate}
-use Rattle.pg_plans.specs.Outcomes.{values_behind}
-use Rattle.pg_plans.proofs.Steps.{step_value}
+use Rattle.pg_returning.specs.Outcomes.{values_behind}
+use Rattle.pg_returning.proofs.Steps.{step_value}
 
 -- one item more at the end of a list that is mapped
 mapped : {X Y : Type 0} (f : X → Y) (before after : List X) (item : X) (value : Y) (rest : List Y) →

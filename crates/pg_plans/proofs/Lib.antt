@@ -1,3 +1,2 @@
-mod Steps
 mod Lending
 mod Listing

@@ -7,7 +7,7 @@ use Rattle.pg_exprs.specs.Tree.{Tree}
 use Rattle.pg_model.specs.declared.catalogue.Column.{Column}
 use Rattle.pg_world.specs.Candidates.{listed_values}
 use Rattle.pg_world.specs.Evaluation.{OrError, all_values}
-use Rattle.pg_plans.specs.Outcomes.{values_behind}
+use Rattle.pg_returning.specs.Outcomes.{values_behind}
 
 past_end : (xs : List Tree) (n : ℕ) → length xs ≤ n → drop n xs ≡ []
 past_end [] zero over = refl

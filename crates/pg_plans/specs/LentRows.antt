@@ -6,8 +6,8 @@ use Rattle.pg_world.specs.Candidates.{selected_candidate}
 use Rattle.pg_world.specs.Evaluation.{OrError, value_before, with_value}
 use Rattle.pg_world.specs.declared.candidate.Candidate.{Candidate}
 use Rattle.pg_world.specs.declared.candidate.SeenRow.{SeenRow}
-use Rattle.pg_plans.specs.Outcomes.{outcome}
-use Rattle.pg_plans.specs.declared.fault.PlanFault.{PlanFault}
+use Rattle.pg_returning.specs.Outcomes.{outcome}
+use Rattle.pg_returning.specs.declared.fault.PlanFault.{PlanFault}
 
 -- the rows themselves, which are lent
 abbrev pub lent_rows : List (Bor SeenRow) → List SeenRow

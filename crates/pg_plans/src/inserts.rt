@@ -1,15 +1,15 @@
 ghost use Rattle.std.specs.Prelude.{◌≡◌, ◌≢◌, Err, nat_eq};
 ghost use Rattle.std.specs.Map.{lookup};
 ghost use Rattle.std.specs.Option.{option_copied};
-ghost use Rattle.pg_plans.specs.Outcomes.{outcome};
+ghost use Rattle.pg_returning.specs.Outcomes.{outcome};
 ghost use Rattle.pg_world.specs.Candidates.{column_values as values_of_columns, insert_candidates as candidates_of, listed_values as values_listed, proposed_row as row_proposed, value_for as value_in, value_or_default as value_given};
 ghost use Rattle.pg_world.specs.Evaluation.{all_values};
 
-use crate::PlanFault;
-use crate::evaluation::{fitted_value, value_of};
+use crate::evaluation::fitted_value;
 use pg_exprs::{Env, Expr};
 use pg_lists::Items;
 use pg_model::{Column, Insert};
+use pg_returning::{PlanFault, value_of};
 use pg_values::{Value, Values, copy_value};
 use pg_world::Candidate;
 use std::alloc::Global;
@@ -18,7 +18,7 @@ use std::alloc::Global;
 const NO_ROWS: [Option<&[Value]>; 0] = [];
 
 /// The proposed rows of an INSERT, in the order written, or their first error.
-#[tactic(auto, using(crate::proofs::Steps::step_value))]
+#[tactic(auto, using(pg_returning::proofs::Steps::step_value))]
 pub fn insert_candidates(alloc: Global, insert: &Insert) -> Result<Items<Candidate>, PlanFault>
     ensures { result ≢ Err PlanFault.Memory → outcome result ≡ candidates_of insert.now }
 {
@@ -45,7 +45,7 @@ fn proposed_row(alloc: Global, insert: &Insert, exprs: &[Expr]) -> Result<Values
 }
 
 /// The values that a row lists, each with the number of its column, or the first error.
-#[tactic(auto, using(crate::proofs::Steps::step_value, crate::proofs::Listing::none_listed))]
+#[tactic(auto, using(pg_returning::proofs::Steps::step_value, crate::proofs::Listing::none_listed))]
 fn listed_values(
     alloc: Global,
     columns: &[Column],
@@ -87,7 +87,7 @@ fn value_for(
 }
 
 /// The values of all columns in their order, or the first error of a default.
-#[tactic(auto, using(crate::proofs::Steps::step_value))]
+#[tactic(auto, using(pg_returning::proofs::Steps::step_value))]
 fn column_values(
     alloc: Global,
     listed: &[(u32, Value)],

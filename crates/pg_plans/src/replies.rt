@@ -1,7 +1,10 @@
 ghost use Rattle.std.specs.Prelude.{◌≡◌, IfOk, map};
 ghost use Rattle.std.specs.Option.{option_copied};
 ghost use Rattle.pg_lists.specs.Numbered.{nth_item};
-ghost use Rattle.pg_world.specs.Replies.{candidate_list as list_of, proposed_values as values_proposed, reply_of, returned_rows as rows_returned, shown_value as value_shown, tag_of as tag_for};
+ghost use Rattle.pg_model.specs.declared.statement.Insert.{Insert};
+ghost use Rattle.pg_model.specs.declared.statement.Select.{Select};
+ghost use Rattle.pg_model.specs.declared.statement.Statement.TheVariants as statement;
+ghost use Rattle.pg_world.specs.Replies.{bare_reply as reply_without_rows, candidate_list as list_of, proposed_values as values_proposed, reply_of, shown_value as value_shown};
 
 use pg_lists::{Items, TryCopy};
 use pg_model::{Reply, Rows, Statement, Tag};
@@ -13,8 +16,43 @@ use std::alloc::{AllocError, Global};
 pub fn reply(alloc: Global, statement: &Statement, running: &Running) -> Result<Reply, AllocError>
     ensures { IfOk result (λ reply. reply ≡ reply_of statement.now running.now) }
 {
-    let tag = tag_of(statement, running);
-    let rows = returned_rows(alloc, statement, running)?;
+    match statement {
+        Statement::Begin => Ok(bare_reply(alloc, Tag::Begin)),
+        Statement::Commit => Ok(bare_reply(alloc, Tag::Commit)),
+        Statement::Rollback => Ok(bare_reply(alloc, Tag::Rollback)),
+        Statement::Select(_) => Ok(select_reply(alloc, running)?),
+        Statement::Insert(_) => Ok(insert_reply(alloc, running)?),
+    }
+}
+
+/// The reply of BEGIN, COMMIT and ROLLBACK, which return no rows.
+fn bare_reply(alloc: Global, tag: Tag) -> Reply
+    ensures { result ≡ reply_without_rows tag }
+{
+    Reply {
+        tag,
+        rows: Items::new(alloc),
+    }
+}
+
+/// The reply of a plain SELECT that is done: its output rows, in which an integer is a bigint.
+pub fn select_reply(alloc: Global, running: &Running) -> Result<Reply, AllocError>
+    ensures { IfOk result (λ reply. (select : Select) →
+        reply ≡ reply_of (statement.Select select) running.now) }
+{
+    let candidates = candidate_list(running);
+    let rows = made_rows(alloc, candidates)?;
+    let tag = Tag::Select(candidates.len() as u64);
+    Ok(Reply { tag, rows })
+}
+
+/// The reply of an INSERT that is done: the tag counts its acts.
+pub fn insert_reply(alloc: Global, running: &Running) -> Result<Reply, AllocError>
+    ensures { IfOk result (λ reply. (insert : Insert) →
+        reply ≡ reply_of (statement.Insert insert) running.now) }
+{
+    let rows = shown_rows(alloc, running.output.as_slice())?;
+    let tag = Tag::Insert(running.acts);
     Ok(Reply { tag, rows })
 }
 
@@ -44,35 +82,6 @@ fn candidate_numbered(candidates: &[Candidate], number: u64) -> Option<&Candidat
 {
     let before = number.checked_sub(1)?;
     candidates.get(before as usize)
-}
-
-/// What the statement did, and to how many rows.
-fn tag_of(statement: &Statement, running: &Running) -> Tag
-    ensures { result ≡ tag_for statement.now running.now }
-{
-    match statement {
-        Statement::Begin => Tag::Begin,
-        Statement::Commit => Tag::Commit,
-        Statement::Rollback => Tag::Rollback,
-        Statement::Select(_) => Tag::Select(candidate_list(running).len() as u64),
-        Statement::Insert(_) => Tag::Insert(running.acts),
-    }
-}
-
-/// The rows that a statement returns, as a reply shows them.
-fn returned_rows(
-    alloc: Global,
-    statement: &Statement,
-    running: &Running,
-) -> Result<Rows, AllocError>
-    ensures { IfOk result (λ rows.
-        rows ≡ map (λ row. map value_shown row) (rows_returned statement.now running.now)) }
-{
-    match statement {
-        Statement::Select(_) => made_rows(alloc, candidate_list(running)),
-        Statement::Insert(_) => shown_rows(alloc, running.output.as_slice()),
-        Statement::Begin | Statement::Commit | Statement::Rollback => Ok(Items::new(alloc)),
-    }
 }
 
 /// What was made for the candidates, as a reply shows it.

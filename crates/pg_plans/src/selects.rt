@@ -1,16 +1,14 @@
 ghost use Rattle.std.specs.Prelude.{◌≡◌, ◌≢◌, ◌++◌, ◌∷◌, Err, IfOk, OnOk, Some, flat_map, map};
 ghost use Rattle.std.specs.Option.{option_copied};
 ghost use Rattle.pg_plans.specs.LentRows.{all_lent_rows, row_before_each, lent_rows, combinations_outcome, output_candidates, output_candidate};
-ghost use Rattle.pg_plans.specs.Outcomes.{outcome};
+ghost use Rattle.pg_returning.specs.Outcomes.{outcome};
 ghost use Rattle.pg_world.specs.Candidates.{combinations as combinations_of, output_row as row_put_out, passes as is_passed, passing_combinations as combinations_passing, row_values as values_in, select_candidates as candidates_of};
-ghost use Rattle.pg_world.specs.Evaluation.{all_values, value_of as value_over};
 
-use crate::PlanFault;
-use crate::evaluation::value_of;
 use pg_exprs::{Env, Expr};
 use pg_heap::Version;
 use pg_lists::{Items, TryCopy};
 use pg_model::Select;
+use pg_returning::{PlanFault, output, value_of};
 use pg_values::{Value, Values};
 use pg_world::{Candidate, SeenRow};
 use std::alloc::{AllocError, Global};
@@ -21,7 +19,7 @@ type Partners<'rows> = Items<&'rows SeenRow>;
 /// The output rows of a plain SELECT with the rows that they are made of, or the first error: of
 /// its WHERE over all rows, and only then of its items over the rows that are returned.
 #[tactic(auto, using(crate::proofs::Lending::all_selected))]
-pub(crate) fn select_candidates(
+pub fn select_candidates(
     alloc: Global,
     select: &Select,
     sources: &[Items<SeenRow>],
@@ -52,7 +50,7 @@ fn combinations<'rows>(
 }
 
 /// The combinations with a row of one source more in front.
-#[tactic(auto, using(crate::proofs::Steps::step_list))]
+#[tactic(auto, using(pg_returning::proofs::Steps::step_list))]
 fn with_source<'rows>(
     alloc: Global,
     rows: &'rows [SeenRow],
@@ -155,7 +153,7 @@ fn passes(alloc: Global, condition: &Option<Expr>, partners: &[&SeenRow]) -> Res
 }
 
 /// The candidates of the rows that are returned, in order, or the first error of their items.
-#[tactic(auto, using(crate::proofs::Steps::step_value))]
+#[tactic(auto, using(pg_returning::proofs::Steps::step_value))]
 fn selected_candidates(
     alloc: Global,
     items: &[Expr],
@@ -193,20 +191,7 @@ fn output_row(alloc: Global, items: &[Expr], partners: &[&SeenRow]) -> Result<Va
 {
     let rows = rows_of(alloc, partners)?;
     let env = Env::new(rows.as_slice(), None);
-    values_of(alloc, items, &env)
-}
-
-/// The values of expressions, in order, or the first error of one.
-#[tactic(auto, using(crate::proofs::Steps::step_value))]
-fn values_of(alloc: Global, items: &[Expr], env: &Env<'_, '_>) -> Result<Values, PlanFault>
-    ensures { result ≢ Err PlanFault.Memory →
-        outcome result ≡ all_values (map (λ item. value_over item env.now) items.now) }
-{
-    let mut values = Items::new(alloc);
-    for item in items {
-        values.push(value_of(alloc, item, env)?)?;
-    }
-    Ok(values)
+    output(alloc, items, &env)
 }
 
 /// What expressions over these rows are evaluated over.
@@ -236,7 +221,7 @@ fn row_values(row: &SeenRow) -> &[Value]
 }
 
 /// Copies of the rows.
-#[tactic(auto, using(crate::proofs::Steps::step_list))]
+#[tactic(auto, using(pg_returning::proofs::Steps::step_list))]
 fn kept_rows(alloc: Global, rows: &[&SeenRow]) -> Result<Items<SeenRow>, AllocError>
     ensures { IfOk result (λ kept. kept ≡ lent_rows rows.now) }
 {

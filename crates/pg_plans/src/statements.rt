@@ -1,12 +1,12 @@
 ghost use Rattle.std.specs.Prelude.{◌≡◌, ◌≢◌, Err, IfOk, map};
-ghost use Rattle.pg_plans.specs.Outcomes.{outcome};
+ghost use Rattle.pg_returning.specs.Outcomes.{outcome};
 ghost use Rattle.pg_world.specs.Candidates.{candidates_over, table_of_source as table_in, tables_read as tables_of};
 
-use crate::PlanFault;
 use crate::inserts::insert_candidates;
 use crate::selects::select_candidates;
 use pg_lists::Items;
 use pg_model::{Source, Statement};
+use pg_returning::PlanFault;
 use pg_world::{Candidate, SeenRow};
 use std::alloc::{AllocError, Global};
 
@@ -43,7 +43,7 @@ pub fn tables_read(alloc: Global, statement: &Statement) -> Result<Items<u32>, A
 }
 
 /// The tables of the sources, in order.
-fn tables_of_sources(alloc: Global, sources: &[Source]) -> Result<Items<u32>, AllocError>
+pub fn tables_of_sources(alloc: Global, sources: &[Source]) -> Result<Items<u32>, AllocError>
     ensures { IfOk result (λ tables. tables ≡ map table_in sources.now) }
 {
     let mut tables = Items::new(alloc);

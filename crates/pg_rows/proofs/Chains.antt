@@ -1,21 +1,21 @@
 -- The chains of a store stay whole as versions are placed, attached and given up.
-use Rattle.std.proofs.Common.{◌≡◌, ◌≢◌, ◌<◌, ◌≤◌, ◌+◌, ◌-◌, ◌++◌, ◌⊎◌, inl, inr, ◌&&◌, ℕ, zero, suc, Bool, true, false, cond, List, [], ◌∷◌, Option, Some, None, IfSome, length, map, nat_eq, option_map, option_and_then, get_or, slice_get, slice_set, refl, ap, sym, ◌∙◌, arith, subst, length-append, length-set, add-one, eqb-true, eq-eqb, ne_eqb}
+use Rattle.std.proofs.Common.{◌≡◌, ◌≢◌, ◌<◌, ◌≤◌, ◌+◌, ◌-◌, ◌++◌, ◌⊎◌, inl, inr, ℕ, zero, suc, Bool, true, false, cond, List, [], ◌∷◌, Option, Some, None, length, nat_eq, option_map, slice_get, refl, ap, sym, ◌∙◌, arith, length-append, eqb-true, eq-eqb, ne_eqb}
 use Rattle.std.specs.Option.{option_map_or}
-use Rattle.std.proofs.lemmas.Bool.{cases_eq, cases_lt, and_parts}
+use Rattle.std.proofs.lemmas.Bool.{cases_eq, and_parts}
 use Rattle.std.proofs.lemmas.List.{length-map}
-use Rattle.std.proofs.lemmas.Option.{get_or_from_slice_get, slice_get_past, slice_get_within}
-use Rattle.pg_lists.specs.Numbered.{with_changed_nth_item, nth_item}
-use Rattle.pg_xacts.proofs.Lists.{get_append_other, get_set, get_set_other, length_changed_from_one}
-use Rattle.pg_heap.proofs.Lists.{changed_here, changed_other, get_before, get_behind, read_kept}
-use Rattle.pg_heap.proofs.Slots.{linked_linked, linked_placed, linked_state, set_after, set_before, set_state}
+use Rattle.std.proofs.lemmas.Option.{slice_get_within}
+use Rattle.pg_lists.specs.Numbered.{with_changed_nth_item}
+use Rattle.pg_xacts.proofs.Lists.{get_append_other, length_changed_from_one}
+use Rattle.pg_heap.proofs.Lists.{changed_here, changed_other, get_before, get_behind}
+use Rattle.pg_heap.proofs.Slots.{linked_placed, linked_state, set_state}
 use Rattle.pg_heap.specs.declared.slot.Slot.{Slot}
 use Rattle.pg_heap.specs.declared.slot.State.{State}
 use Rattle.pg_heap.specs.declared.slot.State.TheVariants.{Placed, Settled, Dead}
-use Rattle.pg_heap.specs.Slots.{AreLinked, CanLink, is_living, is_living_state, predecessor_of, row_of_version, slot_of, successor_of, versions_linked, with_state, with_successor}
-use Rattle.pg_rows.specs.Stores.{Stored, HasNoDraft, is_settled, is_version_of, last_number, newest_number, passes, state_of, stored_of}
-use Rattle.pg_rows.specs.Kept.{AreChained, attached_slots, stored_slot, stored_slots}
-use Rattle.pg_rows.proofs.Numbers.{last_after, last_is as last_of, last_more, last_none, last_passes, last_same}
-use Rattle.pg_rows.proofs.Stored.{in_state, passed_slot, passes_at, stored_at, stored_attached, stored_state}
+use Rattle.pg_heap.specs.Slots.{slot_of, with_state}
+use Rattle.pg_rows.specs.Stores.{Stored, HasNoDraft, is_settled, is_version_of, last_number, newest_number, passes, state_of}
+use Rattle.pg_rows.specs.Kept.{AreChained, stored_slot, stored_slots}
+use Rattle.pg_rows.proofs.Numbers.{last_none, last_same}
+use Rattle.pg_rows.proofs.Stored.{passed_slot, passes_at, stored_at}
 
 -- a state that is settled
 pub settled_state : (state : State) → is_settled state ≡ true → state ≡ Settled

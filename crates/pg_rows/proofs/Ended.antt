@@ -11,7 +11,7 @@ use Rattle.pg_heap.specs.Rows.{is_written_by}
 use Rattle.pg_heap.specs.Slots.{is_number_written_by, slot_of, state_of as state_of_slot}
 use Rattle.pg_heap.specs.Written.{latest_by}
 use Rattle.pg_heap.proofs.Lists.{changed_here, changed_other, same_items}
-use Rattle.pg_rows.specs.Stores.{Stored, StoreView, ended_state, ended_version, is_number_of, is_placed, last_number, last_written_by, passes, store_ended, stored_of, with_given_up}
+use Rattle.pg_rows.specs.Stores.{Stored, StoreView, ended_state, ended_version, is_number_of, is_placed, last_number, last_written_by, store_ended, stored_of, with_given_up}
 use Rattle.pg_rows.specs.Kept.{stored_slot, stored_slots}
 use Rattle.pg_rows.proofs.Numbers.{last_after, last_passes, last_same}
 use Rattle.pg_rows.proofs.Stored.{stored_at}

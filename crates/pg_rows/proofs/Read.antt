@@ -1,12 +1,11 @@
 -- The version that a number of a store stands for is the one that the definitions name.
-use Rattle.std.proofs.Common.{◌≡◌, ◌<◌, ◌≤◌, ◌+◌, ◌++◌, ◌&&◌, ℕ, zero, suc, Bool, true, false, cond, List, [], ◌∷◌, Option, Some, None, length, map, filter, take, option_and_then, option_map, is_some, slice_get, refl, ap, sym, ◌∙◌, arith, append-nil}
-use Rattle.std.specs.Option.{option_map_or}
+use Rattle.std.proofs.Common.{◌≡◌, ◌<◌, ◌≤◌, ◌++◌, ◌&&◌, ℕ, zero, suc, Bool, true, false, cond, List, [], ◌∷◌, Option, Some, None, length, map, filter, take, option_and_then, option_map, is_some, slice_get, refl, ap, sym, ◌∙◌, arith, append-nil}
 use Rattle.std.specs.List.{last_or}
 use Rattle.std.proofs.lemmas.List.{map-append}
 use Rattle.pg_values.specs.declared.value.Value.{Value}
 use Rattle.pg_heap.specs.declared.version.Version.{Version}
 use Rattle.pg_heap.specs.Rows.{last_version, values_of}
-use Rattle.pg_rows.specs.Stores.{Stored, is_version_of, last_accepted, last_number, newest_number, passes, stored_of, version_of, versions_of, with_values}
+use Rattle.pg_rows.specs.Stores.{Stored, is_version_of, last_accepted, last_number, passes, version_of, versions_of, with_values}
 
 -- the last of a list is the item behind the others
 last_behind : {X : Type 0} (o : Option X) (xs : List X) (x : X) → last_or o (xs ++ x ∷ []) ≡ Some x

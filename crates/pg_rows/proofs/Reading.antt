@@ -1,14 +1,14 @@
 -- Reading a row from its newest version back.
-use Rattle.std.proofs.Common.{◌≡◌, ◌≢◌, ◌<◌, ◌≤◌, ◌+◌, ◌-◌, ◌&&◌, ℕ, zero, suc, Bool, true, false, cond, List, Option, Some, None, IfSome, length, nat_eq, option_map, option_and_then, unwrap_or, refl, ap, subst₂, sym, ◌∙◌, arith}
+use Rattle.std.proofs.Common.{◌≡◌, ◌<◌, ◌≤◌, ◌-◌, ◌&&◌, ℕ, zero, suc, Bool, true, false, cond, List, Option, Some, None, IfSome, length, option_map, option_and_then, unwrap_or, refl, ap, subst₂, sym, ◌∙◌, arith}
 use Rattle.std.specs.Option.{option_map_or}
 use Rattle.std.proofs.lemmas.Bool.{and_left}
 use Rattle.pg_heap.specs.declared.version.Version.{Version}
 use Rattle.pg_heap.specs.declared.slot.Slot.{Slot}
-use Rattle.pg_heap.specs.Slots.{predecessor_of, slot_of, version_of as version_of_slot}
-use Rattle.pg_rows.specs.Stores.{Stored, is_version_of, last_accepted, last_number, newest_number, passes, stored_of, version_of}
-use Rattle.pg_rows.specs.Kept.{AreChained, stored_slot, stored_slots}
+use Rattle.pg_heap.specs.Slots.{predecessor_of, version_of as version_of_slot}
+use Rattle.pg_rows.specs.Stores.{Stored, is_version_of, last_accepted, last_number, newest_number, passes, stored_of}
+use Rattle.pg_rows.specs.Kept.{AreChained, stored_slots}
 use Rattle.pg_rows.proofs.Numbers.{last_passes}
-use Rattle.pg_rows.proofs.Stored.{passes_at, stored_at}
+use Rattle.pg_rows.proofs.Stored.{passes_at}
 use Rattle.pg_rows.proofs.Chains.{slot_within, version_slot}
 
 -- where each number that passes one test passes another, the last of the one is looked for from the last of the other

@@ -1,23 +1,20 @@
 -- The rows that a store keeps, as its versions change.
-use Rattle.std.proofs.Common.{◌≡◌, ◌≢◌, ◌<◌, ◌≤◌, ◌+◌, ◌-◌, ◌++◌, ◌&&◌, ◌⊎◌, inl, inr, ℕ, zero, suc, Bool, true, false, cond, List, [], ◌∷◌, Option, Some, None, length, map, filter, option_map, nat_eq, slice_get, slice_set, refl, ap, ap₂, sym, ◌∙◌, arith, append-nil, add-one, eq-eqb, ne_eqb}
-use Rattle.std.specs.Option.{option_map_or}
+use Rattle.std.proofs.Common.{◌≡◌, ◌≢◌, ◌<◌, ◌≤◌, ◌+◌, ◌++◌, ◌&&◌, ◌⊎◌, inl, inr, ℕ, zero, suc, Bool, true, false, cond, List, [], ◌∷◌, Option, Some, None, length, map, filter, option_map, nat_eq, not, slice_get, slice_set, refl, ap, ap₂, sym, ◌∙◌, arith, append-nil, add-one, eq-eqb, ne_eqb}
 use Rattle.std.proofs.lemmas.Bool.{cases_eq, cases_lt}
 use Rattle.std.proofs.lemmas.List.{map-append}
 use Rattle.pg_values.specs.declared.value.Value.{Value}
 use Rattle.pg_xacts.specs.declared.me.Me.{Me}
 use Rattle.pg_lists.specs.Numbered.{with_changed_nth_item, nth_item}
-use Rattle.pg_heap.specs.declared.version.Version.{Version}
 use Rattle.pg_heap.specs.declared.slot.State.{State}
 use Rattle.pg_heap.specs.declared.slot.State.TheVariants.{Placed, Settled, Dead}
-use Rattle.pg_heap.specs.declared.row.Row.{Row}
-use Rattle.pg_heap.specs.Rows.{row_drawn, row_stored, with_version}
+use Rattle.pg_heap.specs.Rows.{is_written_by, row_drawn, row_stored, rows_without, with_version}
 use Rattle.pg_heap.proofs.Lists.{changed_here, changed_other, same_items}
-use Rattle.pg_rows.specs.Stores.{Stored, StoreView, draft_of, is_settled, is_version_of, passes, row_in, row_placed, rows_from, rows_of, stored_of, version_drafted, versions_of, with_version_state}
+use Rattle.pg_rows.specs.Stores.{Stored, StoreView, draft_of, ended_state, ended_version, is_settled, is_version_of, row_in, row_placed, rows_from, rows_of, store_ended, store_without, stored_of, undone_state, undone_version, version_drafted, versions_of, with_version_state}
 use Rattle.pg_rows.proofs.Read.{filter_append}
 use Rattle.pg_rows.proofs.Stored.{in_state}
 
 -- the rows end with the last number
-rows_behind : (first count : ℕ) (versions : List Stored) →
+pub rows_behind : (first count : ℕ) (versions : List Stored) →
     rows_from first (suc count) versions ≡ rows_from first count versions ++ row_in versions (first + count) ∷ []
 rows_behind first zero versions =
     let e : first + zero ≡ first = omega arith in rw e refl
@@ -25,12 +22,12 @@ rows_behind first (suc count) versions =
     let e : first + 1 + count ≡ first + suc count = omega arith in
     ap (λ rows. row_in versions first ∷ rows) (rows_behind (first + 1) count versions ∙ ap (λ n. rows_from (first + 1) count versions ++ row_in versions n ∷ []) e)
 
-length_rows : (first count : ℕ) (versions : List Stored) → length (rows_from first count versions) ≡ count
+pub length_rows : (first count : ℕ) (versions : List Stored) → length (rows_from first count versions) ≡ count
 length_rows first zero versions = refl
 length_rows first (suc count) versions = ap suc (length_rows (first + 1) count versions)
 
 -- rows whose versions are the same
-rows_same : (first count : ℕ) (versions more : List Stored) → ((row : ℕ) → versions_of row more ≡ versions_of row versions) →
+pub rows_same : (first count : ℕ) (versions more : List Stored) → ((row : ℕ) → versions_of row more ≡ versions_of row versions) →
     rows_from first count more ≡ rows_from first count versions
 rows_same first zero versions more same = refl
 rows_same first (suc count) versions more same =
@@ -80,7 +77,7 @@ rows_drafted store me row values =
     rows_same 1 store.drawn store.versions (store.versions ++ draft_of me row values ∷ []) (λ r. versions_drafted store.versions me row values r)
 
 -- the row of a number
-rows_at : (first count : ℕ) (versions : List Stored) (i : ℕ) → i < count →
+pub rows_at : (first count : ℕ) (versions : List Stored) (i : ℕ) → i < count →
     slice_get (rows_from first count versions) i ≡ Some (row_in versions (first + i))
 rows_at first zero versions i within = absurd (omega (arith, within))
 rows_at first (suc count) versions zero within = let e : first + zero ≡ first = omega arith in rw e refl
@@ -88,7 +85,7 @@ rows_at first (suc count) versions (suc i) within =
     let e : first + 1 + i ≡ first + suc i = omega arith in
     rows_at (first + 1) count versions i (omega (arith, within)) ∙ ap (λ n. Some (row_in versions n)) e
 
-rows_past : (first count : ℕ) (versions : List Stored) (i : ℕ) → count ≤ i → slice_get (rows_from first count versions) i ≡ None
+pub rows_past : (first count : ℕ) (versions : List Stored) (i : ℕ) → count ≤ i → slice_get (rows_from first count versions) i ≡ None
 rows_past first zero versions i past = refl
 rows_past first (suc count) versions zero past = absurd (omega (arith, past))
 rows_past first (suc count) versions (suc i) past = rows_past (first + 1) count versions i (omega (arith, past))
@@ -194,3 +191,67 @@ rows_attached_at store zero stored within is placed last = absurd (cc is)
 rows_attached_at store (suc before) stored within is placed last =
     rows_attached store before stored is placed (within (suc before) stored is)
     (λ j more lt there. last (suc j) more (omega (arith, lt)) there)
+
+-- a version of a row, where a transaction was rolled back
+undone_first : (xact row : ℕ) (stored : Stored) (versions more : List Stored) →
+    versions_of row more ≡ filter (λ version. not (is_written_by xact version)) (versions_of row versions) →
+    versions_of row (undone_version xact stored ∷ more)
+    ≡ filter (λ version. not (is_written_by xact version)) (versions_of row (stored ∷ versions))
+undone_first xact row stored versions more behind =
+    at (is_written_by xact stored.version) (is_settled stored.state && nat_eq stored.row row) refl refl
+  where
+    at : (b c : Bool) → is_written_by xact stored.version ≡ b → (is_settled stored.state && nat_eq stored.row row) ≡ c →
+        map (λ s. s.version) (cond (is_settled (undone_state (is_written_by xact stored.version) stored.state) && nat_eq stored.row row) (undone_version xact stored ∷ filter (is_version_of row) more) (filter (is_version_of row) more))
+        ≡ filter (λ version. not (is_written_by xact version)) (map (λ s. s.version) (cond (is_settled stored.state && nat_eq stored.row row) (stored ∷ filter (is_version_of row) versions) (filter (is_version_of row) versions)))
+    at true true by mine = rw (by, mine, by) behind
+    at true false by mine = rw (by, mine) behind
+    at false true by mine = rw (by, mine, by) (ap (λ xs. stored.version ∷ xs) behind)
+    at false false by mine = rw (by, mine) behind
+
+versions_undone : (xact row : ℕ) (versions : List Stored) →
+    versions_of row (map (undone_version xact) versions) ≡ filter (λ version. not (is_written_by xact version)) (versions_of row versions)
+versions_undone xact row [] = refl
+versions_undone xact row (stored ∷ versions) =
+    undone_first xact row stored versions (map (undone_version xact) versions) (versions_undone xact row versions)
+
+rows_undone_from : (xact first count : ℕ) (versions : List Stored) →
+    rows_from first count (map (undone_version xact) versions) ≡ rows_without xact (rows_from first count versions)
+rows_undone_from xact first zero versions = refl
+rows_undone_from xact first (suc count) versions =
+    ap₂ (λ row rows. row ∷ rows)
+    (ap (λ v. record { number = first; versions = v }) (versions_undone xact first versions))
+    (rows_undone_from xact (first + 1) count versions)
+
+-- the rows of a store, where a transaction was rolled back
+pub rows_undone : (store : StoreView) (xact : ℕ) → rows_of (store_without store xact) ≡ rows_without xact (rows_of store)
+rows_undone store xact = rows_undone_from xact 1 store.drawn store.versions
+
+-- a draft that is given up is no version of a row
+ended_first : (xact row : ℕ) (stored : Stored) (versions more : List Stored) → versions_of row more ≡ versions_of row versions →
+    versions_of row (ended_version xact stored ∷ more) ≡ versions_of row (stored ∷ versions)
+ended_first xact row stored versions more behind =
+    ap (λ b. map (λ s. s.version) (cond (b && nat_eq stored.row row) (ended_version xact stored ∷ filter (is_version_of row) more) (filter (is_version_of row) more)))
+    (settled (is_written_by xact stored.version) stored.state)
+    ∙ at (is_settled stored.state && nat_eq stored.row row)
+  where
+    settled : (b : Bool) (state : State) → is_settled (ended_state b state) ≡ is_settled state
+    settled true Placed = refl
+    settled true Settled = refl
+    settled true Dead = refl
+    settled false state = refl
+
+    at : (c : Bool) →
+        map (λ s. s.version) (cond c (ended_version xact stored ∷ filter (is_version_of row) more) (filter (is_version_of row) more))
+        ≡ map (λ s. s.version) (cond c (stored ∷ filter (is_version_of row) versions) (filter (is_version_of row) versions))
+    at true = ap (λ xs. stored.version ∷ xs) behind
+    at false = behind
+
+versions_ended : (xact row : ℕ) (versions : List Stored) → versions_of row (map (ended_version xact) versions) ≡ versions_of row versions
+versions_ended xact row [] = refl
+versions_ended xact row (stored ∷ versions) =
+    ended_first xact row stored versions (map (ended_version xact) versions) (versions_ended xact row versions)
+
+-- the rows of a store, where a transaction has committed
+pub rows_ended : (store : StoreView) (xact : ℕ) → rows_of (store_ended store xact) ≡ rows_of store
+rows_ended store xact =
+    rows_same 1 store.drawn store.versions (map (ended_version xact) store.versions) (λ row. versions_ended xact row store.versions)

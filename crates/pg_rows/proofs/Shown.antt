@@ -1,8 +1,8 @@
 -- Which of its versions a row shows to a statement, and what a scan collects of them.
-use Rattle.std.proofs.Common.{◌≡◌, ◌≢◌, ◌<◌, ◌≤◌, ◌+◌, ◌-◌, ◌++◌, ◌⊎◌, inl, inr, ◌&&◌, ℕ, zero, suc, Bool, true, false, cond, List, [], ◌∷◌, Option, Some, None, length, nat_eq, option_map, option_and_then, is_some, refl, ap, ap₂, sym, ◌∙◌, arith, eq-eqb, ne_eqb}
-use Rattle.std.specs.Prelude.{filter_map, min}
+use Rattle.std.proofs.Common.{◌≡◌, ◌≢◌, ◌<◌, ◌≤◌, ◌+◌, ◌-◌, ◌++◌, ◌⊎◌, inl, inr, ◌&&◌, ℕ, zero, suc, Bool, true, false, cond, List, [], ◌∷◌, Option, Some, None, length, option_map, option_and_then, is_some, refl, ap, ap₂, sym, ◌∙◌, arith, eq-eqb, ne_eqb, le-leb}
+use Rattle.std.specs.Prelude.{filter_map, max, min, nat_le}
 use Rattle.std.specs.Option.{option_map_or}
-use Rattle.std.proofs.lemmas.Bool.{and_parts, cases_eq}
+use Rattle.std.proofs.lemmas.Bool.{and_parts, cases_lt, lt-leb}
 use Rattle.std.proofs.lemmas.List.Elements.{filter_map-append}
 use Rattle.pg_xacts.specs.declared.me.Me.{Me}
 use Rattle.pg_xacts.specs.Transactions.{Transactions}
@@ -10,11 +10,11 @@ use Rattle.pg_heap.specs.declared.version.Version.{Version}
 use Rattle.pg_heap.specs.declared.slot.Slot.{Slot}
 use Rattle.pg_heap.specs.declared.slot.State.TheVariants.{Settled}
 use Rattle.pg_heap.specs.Rows.{values_of}
-use Rattle.pg_heap.specs.Seen.{is_seen}
 use Rattle.pg_heap.specs.Slots.{predecessor_of, row_of_version, slot_of, successor_of, version_of as version_of_slot}
+use Rattle.pg_heap.specs.Pieces.{piece_count, piece_from}
 use Rattle.pg_rows.specs.declared.scan.SeenVersion.{SeenVersion}
-use Rattle.pg_rows.specs.Stores.{Stored, is_settled, is_version_of, last_accepted, last_number, passes, seen_number, stored_of, version_of, with_values}
-use Rattle.pg_rows.specs.Scans.{found_items, is_number, numbers_from, seen_among, seen_at, seen_stored}
+use Rattle.pg_rows.specs.Stores.{Stored, is_settled, is_version_of, last_accepted, passes, seen_number, stored_of, version_of, with_values}
+use Rattle.pg_rows.specs.Scans.{found_items, is_number, number_behind, numbers_from, seen_among, seen_at, seen_below, seen_in_piece, seen_stored}
 use Rattle.pg_rows.specs.Kept.{AreChained, stored_slot, stored_slots}
 use Rattle.pg_rows.proofs.Numbers.{last_after, last_passes}
 use Rattle.pg_rows.proofs.Stored.{passes_at, stored_at}
@@ -217,3 +217,52 @@ number_drawn first offset from sum last count number is sum_is from_is last_is f
   where
     min_left : {a b : ℕ} → a ≤ b → min a b ≡ a
     min_left le = omega (arith, le)
+
+-- the numbers of two stretches
+numbers_both : (first count more : ℕ) → numbers_from first (count + more) ≡ numbers_from first count ++ numbers_from (first + count) more
+numbers_both first zero more =
+    let e : first + zero ≡ first = omega arith in
+    let f : zero + more ≡ more = omega arith in rw (e, f) refl
+numbers_both first (suc count) more =
+    let e : first + 1 + count ≡ first + suc count = omega arith in
+    let f : suc count + more ≡ suc (count + more) = omega arith in
+    rw f (ap (λ numbers. first ∷ numbers) (numbers_both (first + 1) count more ∙ ap (λ n. numbers_from (first + 1) count ++ numbers_from n more) e))
+
+-- what is seen among them
+pub among_both : (transactions : Transactions) (commits : ℕ) (me : Me) (versions : List Stored) (first count more : ℕ) →
+    seen_among transactions commits me versions first (count + more)
+    ≡ seen_among transactions commits me versions first count ++ seen_among transactions commits me versions (first + count) more
+among_both transactions commits me versions first count more =
+    ap (λ numbers. filter_map (seen_at transactions commits me versions) numbers) (numbers_both first count more)
+    ∙ filter_map-append (seen_at transactions commits me versions) (numbers_from first count) (numbers_from (first + count) more)
+
+-- a piece and the number behind it
+piece_ends : (versions : List Stored) (from : ℕ) → 0 < from → from ≤ length versions + 1 →
+    number_behind versions (piece_from (length versions) from).next - 1 ≡ from - 1 + piece_count (length versions) from
+piece_ends versions from first within =
+    rw most (at (cases_lt (length versions) (from + piece_count (length versions) from)))
+  where
+    most : max 1 from ≡ from
+    most = omega (arith, first)
+
+    bound : piece_count (length versions) from ≤ length versions + 1 - from
+    bound = omega arith
+
+    at : (length versions < from + piece_count (length versions) from) ⊎ (from + piece_count (length versions) from ≤ length versions) →
+        number_behind versions (cond (nat_le (from + piece_count (length versions) from) (length versions)) (Some (from + piece_count (length versions) from)) None) - 1
+        ≡ from - 1 + piece_count (length versions) from
+    at (inr le) = rw (le-leb (from + piece_count (length versions) from) (length versions) le) (omega (arith, first))
+    at (inl lt) =
+        let b = bound in
+        rw (lt-leb (from + piece_count (length versions) from) (length versions) lt) (omega (arith, first, within, lt, b))
+
+pub piece_follows : (transactions : Transactions) (commits : ℕ) (me : Me) (versions : List Stored) (from : ℕ) → 0 < from → from ≤ length versions + 1 →
+    seen_below transactions commits me versions from ++ seen_in_piece transactions commits me versions from
+    ≡ seen_below transactions commits me versions (number_behind versions (piece_from (length versions) from).next)
+piece_follows transactions commits me versions from first within =
+    let most : max 1 from ≡ from = omega (arith, first) in
+    let begins : 1 + (from - 1) ≡ from = omega (arith, first) in
+    ap (λ n. seen_below transactions commits me versions from ++ seen_among transactions commits me versions n (piece_count (length versions) n)) most
+    ∙ (ap (λ n. seen_below transactions commits me versions from ++ seen_among transactions commits me versions n (piece_count (length versions) from)) (sym begins)
+    ∙ (sym (among_both transactions commits me versions 1 (from - 1) (piece_count (length versions) from))
+    ∙ ap (λ n. seen_among transactions commits me versions 1 n) (sym (piece_ends versions from first within))))

@@ -1,16 +1,14 @@
 -- The versions of a heap without their links, by number.
-use Rattle.std.proofs.Common.{◌≡◌, ◌≢◌, ◌<◌, ◌≤◌, ◌+◌, ◌++◌, ◌⊎◌, inl, inr, ◌&&◌, ℕ, zero, suc, Bool, true, false, cond, List, [], ◌∷◌, Option, Some, None, length, map, nat_eq, option_map, slice_get, slice_set, refl, ap, sym, ◌∙◌, arith}
+use Rattle.std.proofs.Common.{◌≡◌, ◌⊎◌, inl, inr, ℕ, zero, suc, Bool, true, false, List, Option, Some, None, option_map, refl, ap, sym, ◌∙◌}
 use Rattle.std.specs.Option.{option_map_or}
 use Rattle.std.proofs.lemmas.Bool.{cases_eq}
-use Rattle.std.proofs.lemmas.List.{map-append}
-use Rattle.std.proofs.lemmas.Option.{slice_get-map, slice_get_past, slice_get_within}
-use Rattle.pg_lists.specs.Numbered.{with_changed_nth_item, nth_item}
-use Rattle.pg_xacts.proofs.Lists.{get_append_other}
-use Rattle.pg_heap.proofs.Lists.{changed_here, changed_other, get_behind, read_kept, same_items}
+use Rattle.std.proofs.lemmas.Option.{slice_get-map}
+use Rattle.pg_lists.specs.Numbered.{with_changed_nth_item}
+use Rattle.pg_heap.proofs.Lists.{changed_here, changed_other, read_kept, same_items}
 use Rattle.pg_heap.specs.declared.slot.Slot.{Slot}
 use Rattle.pg_heap.specs.declared.slot.State.{State}
-use Rattle.pg_heap.specs.declared.slot.State.TheVariants.{Placed, Settled, Dead}
-use Rattle.pg_heap.specs.Slots.{slot_of, versions_linked, with_predecessor, with_state, with_successor}
+use Rattle.pg_heap.specs.declared.slot.State.TheVariants.{Settled}
+use Rattle.pg_heap.specs.Slots.{slot_of, versions_linked, with_state, with_successor}
 use Rattle.pg_heap.proofs.Slots.{set_after, set_before, set_state}
 use Rattle.pg_rows.specs.Stores.{Stored, passes, stored_of}
 use Rattle.pg_rows.specs.Kept.{attached_slots, stored_slot, stored_slots}

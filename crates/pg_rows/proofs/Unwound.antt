@@ -1,24 +1,24 @@
 -- A transaction is rolled back in a store: the newest versions leave out what it wrote, and then all
 -- of that is dead.
-use Rattle.std.proofs.Common.{◌≡◌, ◌≢◌, ◌<◌, ◌≤◌, ◌+◌, ◌-◌, ◌⊎◌, inl, inr, ◌&&◌, ℕ, zero, suc, Bool, true, false, cond, List, Option, Some, None, IfSome, length, map, not, nat_eq, nat_lt, option_and_then, option_map, unwrap_or, slice_get, slice_set, refl, ap, subst, sym, ◌∙◌, arith, length-set, eqb-true, eq-eqb, ne_eqb, lt-ltb, le-ltb}
+use Rattle.std.proofs.Common.{◌≡◌, ◌≢◌, ◌<◌, ◌≤◌, ◌+◌, ◌-◌, ◌⊎◌, inl, inr, ◌&&◌, ℕ, zero, suc, Bool, true, false, cond, List, Option, Some, None, IfSome, length, map, not, nat_eq, nat_lt, option_and_then, option_map, unwrap_or, slice_get, slice_set, refl, ap, subst, sym, ◌∙◌, arith, length-set, eq-eqb, ne_eqb, lt-ltb, le-ltb}
 use Rattle.std.specs.Option.{option_map_or}
-use Rattle.std.proofs.lemmas.Bool.{cases_eq, cases_order, and_parts}
+use Rattle.std.proofs.lemmas.Bool.{cases_eq, cases_order}
 use Rattle.std.proofs.lemmas.Option.{slice_get-map}
 use Rattle.pg_xacts.proofs.Lists.{get_set, get_set_other}
 use Rattle.pg_heap.specs.declared.slot.Slot.{Slot}
 use Rattle.pg_heap.specs.declared.slot.State.{State}
 use Rattle.pg_heap.specs.declared.slot.State.TheVariants.{Placed, Settled, Dead}
 use Rattle.pg_heap.specs.Rows.{is_written_by}
-use Rattle.pg_heap.specs.Slots.{dead_slot, is_number_written_by, link_outside, predecessor_of, row_of_version, slot_of, slot_without, slots_without, state_of, versions_undone}
+use Rattle.pg_heap.specs.Slots.{dead_slot, is_number_written_by, link_outside, predecessor_of, row_of_version, slot_of, slot_without, state_of, versions_undone}
 use Rattle.pg_heap.specs.Written.{latest_by}
 use Rattle.pg_heap.proofs.Lists.{same_items}
 use Rattle.pg_heap.proofs.Latest.{latest_most, latest_within, latest_written, written_slot, written_within}
 use Rattle.pg_heap.proofs.Undone.{length_without, linked_without, slot_of_without}
-use Rattle.pg_rows.specs.Stores.{StandBehind, Stored, is_settled, is_version_of, last_number, newest_number, passes, stored_of, undone_state, undone_version}
+use Rattle.pg_rows.specs.Stores.{StandBehind, is_settled, is_version_of, last_number, passes, stored_of, undone_state, undone_version}
 use Rattle.pg_rows.specs.Kept.{AreChained, AreUnwound, is_left, stored_slot, stored_slots}
 use Rattle.pg_rows.proofs.Numbers.{last_more, last_passes, last_same}
 use Rattle.pg_rows.proofs.Stored.{passes_at, stored_at}
-use Rattle.pg_rows.proofs.Chains.{length_stored, no_version, settled_state, slot_within, unsettled, version_slot}
+use Rattle.pg_rows.proofs.Chains.{length_stored, no_version, version_slot}
 
 -- what the transaction wrote behind `next` is left out, and it wrote that
 pub record IsUnwinding (slots : List Slot) (xact : ℕ) (old newest : List (Option ℕ)) (next : Option ℕ) : Type 0 where

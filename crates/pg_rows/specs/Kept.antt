@@ -1,5 +1,5 @@
 -- What holds of the heap and of the list of newest versions that a store keeps.
-use Rattle.std.specs.Prelude.{ℕ, ◌≡◌, ◌≢◌, ◌+◌, ◌-◌, ◌<◌, ◌≤◌, ◌&&◌, Bool, true, not, nat_lt, List, length, map, slice_get, Option, None, Some}
+use Rattle.std.specs.Prelude.{ℕ, ◌≡◌, ◌≢◌, ◌+◌, ◌-◌, ◌<◌, ◌≤◌, ◌&&◌, Bool, not, nat_lt, List, length, map, slice_get, Option, None, Some}
 use Rattle.pg_heap.specs.declared.slot.Slot.{Slot}
 use Rattle.pg_heap.specs.declared.slot.State.TheVariants.{Placed, Settled, Dead}
 use Rattle.pg_heap.specs.Slots.{AreLinked, is_number_written_by, slot_of, versions_linked, with_state}

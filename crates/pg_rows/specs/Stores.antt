@@ -1,15 +1,15 @@
 -- What a row store shows: its versions by number, and the rows that they make.
-use Rattle.std.specs.Prelude.{ℕ, zero, suc, ◌≡◌, ◌≢◌, ◌+◌, ◌<◌, ◌≤◌, ◌++◌, ◌&&◌, Bool, true, false, not, if◌then◌else◌, nat_eq, List, [], ◌∷◌, filter, length, map, Option, None, Some, is_some, option_and_then, option_map}
+use Rattle.std.specs.Prelude.{ℕ, zero, suc, ◌≡◌, ◌≢◌, ◌+◌, ◌<◌, ◌≤◌, ◌++◌, ◌&&◌, Bool, true, false, not, if◌then◌else◌, nat_eq, List, [], ◌∷◌, filter, length, map, Option, None, Some, is_some, option_map}
 use Rattle.std.specs.Option.{option_map_or}
 use Rattle.pg_values.specs.declared.value.Value.{Value}
 use Rattle.pg_xacts.specs.declared.me.Me.{Me}
 use Rattle.pg_xacts.specs.Transactions.{Transactions, is_running_beside}
 use Rattle.pg_heap.specs.declared.version.Version.{Version}
-use Rattle.pg_heap.specs.declared.slot.Slot.{Slot}
 use Rattle.pg_heap.specs.declared.slot.State.{State}
 use Rattle.pg_heap.specs.declared.slot.State.TheVariants.{Placed, Settled, Dead}
 use Rattle.pg_heap.specs.declared.row.Row.{Row}
 use Rattle.pg_heap.specs.Rows.{is_written_by, values_of}
+use Rattle.pg_heap.specs.Current.{is_live}
 use Rattle.pg_heap.specs.Seen.{is_seen}
 use Rattle.pg_lists.specs.Numbered.{with_changed_nth_item, nth_item}
 
@@ -110,6 +110,16 @@ current_number transactions xact versions row =
 abbrev pub seen_number : Transactions → ℕ → Me → List Stored → ℕ → Option ℕ
 seen_number transactions commits me versions row =
     with_values versions (last_accepted (is_seen transactions commits me) versions row)
+
+-- the number of the last version of a row whose writer has committed, unless there is none, or one
+-- that is gone
+abbrev pub live_number : Transactions → List Stored → ℕ → Option ℕ
+live_number transactions versions row =
+    with_values versions (last_accepted (is_live transactions []) versions row)
+
+-- the version of that number has values
+abbrev pub HasValues : List Stored → ℕ → Type 0
+HasValues versions number = is_some (values_of (version_of versions number)) ≡ true
 
 -- a version that is placed for a row
 abbrev pub draft_of : Me → ℕ → Option (List Value) → Stored

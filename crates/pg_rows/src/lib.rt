@@ -8,8 +8,9 @@ mod store;
 mod versions;
 
 pub use laws::{
-    attached_draft_is_stored, current_is_current, draft_changes_no_row, newest_is_newest,
-    placed_row_is_drawn, seen_is_seen,
+    attached_draft_is_stored, current_is_current, draft_changes_no_row, ended_store_keeps_its_rows,
+    live_is_live, newest_is_newest, pieces_follow, placed_row_is_drawn, seen_is_seen,
+    undone_store_has_no_version_of_it,
 };
 pub use scan::{Scan, SeenVersion};
 pub use store::RowStore;

@@ -1,4 +1,5 @@
-ghost use Rattle.std.specs.Prelude.{◌≡◌, ◌≢◌, ◌+◌, ◌-◌, ◌<◌, ◌≤◌, IfOk, IfSome, OnErr, OnOk, Some, is_some, length, option_map, true, ℕ};
+ghost use Rattle.std.specs.Prelude.{◌≡◌, ◌≢◌, ◌+◌, ◌-◌, ◌<◌, ◌≤◌, [], IfOk, IfSome, OnErr, OnOk, Some, is_some, length, option_map, true, ℕ};
+ghost use Rattle.pg_heap.specs.Current.{is_live};
 ghost use Rattle.pg_heap.specs.Pieces.{piece_from};
 ghost use Rattle.pg_heap.specs.Rows.{values_of};
 ghost use Rattle.pg_heap.specs.Seen.{is_seen};
@@ -7,9 +8,9 @@ ghost use Rattle.pg_heap.specs.Slots.{CanLink, state_of as state_of_slot};
 ghost use Rattle.pg_heap.specs.declared.slot.State.TheVariants.{Dead as IsDead, Placed as IsPlaced, Settled as IsSettled};
 ghost use Rattle.pg_rows.specs.Kept.{AreChained, AreUnwound, attached_slots, stored_slots};
 ghost use Rattle.pg_rows.specs.Scans.{is_number, seen_among, seen_at, seen_in_piece};
-ghost use Rattle.pg_rows.specs.Stores.{HasNoDraft, StandBehind, current_number, empty_store, is_current_for, is_number_of, last_accepted, last_written_by, newest_number, row_placed, seen_number, state_of, store_ended, store_without, stored_of, version_drafted, version_of, with_given_up, with_values, with_version_state};
+ghost use Rattle.pg_rows.specs.Stores.{HasNoDraft, HasValues, StandBehind, current_number, empty_store, is_current_for, is_number_of, last_accepted, last_written_by, live_number, newest_number, row_placed, seen_number, state_of, store_ended, store_without, stored_of, version_drafted, version_of, with_given_up, with_values, with_version_state};
 
-use crate::versions::{copy_version, is_current, is_that, keep, sees, stands, waits};
+use crate::versions::{copy_version, is_current, is_live, is_that, keep, sees, stands, waits};
 use crate::{Scan, SeenVersion};
 use pg_heap::{Heap, Piece, State, Version};
 use pg_lists::Items;
@@ -155,7 +156,7 @@ impl RowStore {
 
     /// The values of a version that has some.
     pub fn values(&self, version: u64) -> &Values
-        requires { is_some (values_of (version_of self.now.versions version)) ≡ true }
+        requires { HasValues self.now.versions version }
         ensures { values_of (version_of self.now.versions version) ≡ Some result.now }
     {
         match &self.version(version).values {
@@ -178,7 +179,8 @@ impl RowStore {
     pub fn current(&self, xacts: &Xacts, me: &Me, row: u64) -> Option<u64>
         requires first { 0 < row }
         requires drawn { row ≤ self.now.drawn }
-        ensures { result ≡ current_number xacts.now me.now.xact self.now.versions row }
+        ensures number { result ≡ current_number xacts.now me.now.xact self.now.versions row }
+        ensures there { IfSome result (HasValues self.now.versions) }
     {
         self.if_there(self.last_current(xacts, me.xact, row))
     }
@@ -189,9 +191,22 @@ impl RowStore {
         requires first { 0 < row }
         requires drawn { row ≤ self.now.drawn }
         requires taken { WasTakenOf xacts.now snapshot.now }
-        ensures { result ≡ seen_number xacts.now snapshot.now.commits me.now self.now.versions row }
+        ensures number { result
+            ≡ seen_number xacts.now snapshot.now.commits me.now self.now.versions row }
+        ensures there { IfSome result (HasValues self.now.versions) }
     {
         self.if_there(self.last_seen(xacts, snapshot, me, row))
+    }
+
+    /// The number of the last version of a row whose writer has committed, or `None` where there is
+    /// none, or one that says that the row is gone.
+    pub fn live(&self, xacts: &Xacts, row: u64) -> Option<u64>
+        requires first { 0 < row }
+        requires drawn { row ≤ self.now.drawn }
+        ensures number { result ≡ live_number xacts.now self.now.versions row }
+        ensures there { IfSome result (HasValues self.now.versions) }
+    {
+        self.if_there(self.last_live(xacts, row))
     }
 
     /// The versions that a statement of `me` sees, with their rows, among at most 64 version
@@ -298,7 +313,8 @@ impl RowStore {
     /// The number, unless that version says that its row is gone.
     fn if_there(&self, number: Option<u64>) -> Option<u64>
         requires { IfSome number (λ n. (0 < n) × (n ≤ length self.now.versions)) }
-        ensures { result ≡ with_values self.now.versions number }
+        ensures number { result ≡ with_values self.now.versions number }
+        ensures there { IfSome result (HasValues self.now.versions) }
     {
         let number = number?;
         match self.version(number).values {
@@ -344,6 +360,22 @@ impl RowStore {
         let mut next = self.newest(row);
         while let Some(number) = next {
             if is_current(xacts, xact, self.heap.fetch(number)) {
+                return Some(number);
+            }
+            next = self.heap.predecessor(number);
+        }
+        None
+    }
+
+    /// The last version of a row whose writer has committed.
+    fn last_live(&self, xacts: &Xacts, row: u64) -> Option<u64>
+        requires first { 0 < row }
+        requires drawn { row ≤ self.now.drawn }
+        ensures { result ≡ last_accepted (is_live xacts.now []) self.now.versions row }
+    {
+        let mut next = self.newest(row);
+        while let Some(number) = next {
+            if is_live(xacts, self.heap.fetch(number)) {
                 return Some(number);
             }
             next = self.heap.predecessor(number);

@@ -1,9 +1,10 @@
-ghost use Rattle.std.specs.Prelude.{◌≡◌, ◌++◌, IfOk, OnOk};
+ghost use Rattle.std.specs.Prelude.{◌≡◌, ◌++◌, [], IfOk, OnOk};
+ghost use Rattle.pg_heap.specs.Current.{is_live};
 ghost use Rattle.pg_heap.specs.Seen.{is_seen};
 ghost use Rattle.pg_rows.specs.Scans.{found_items, is_number};
 ghost use Rattle.pg_rows.specs.Stores.{is_current_for, is_placed, is_settled};
 ghost use Rattle.pg_xacts.specs.Snapshots.{WasTakenOf};
-ghost use Rattle.pg_xacts.specs.Transactions.{is_among_commits, is_running};
+ghost use Rattle.pg_xacts.specs.Transactions.{is_among_commits, is_committed, is_running};
 
 use crate::SeenVersion;
 use pg_heap::{State, Version};
@@ -48,6 +49,23 @@ pub fn sees(xacts: &Xacts, snapshot: &Snapshot, me: &Me, version: &Version) -> b
         return true;
     }
     version.writer == me.xact && version.command < me.command
+}
+
+/// Whether a transaction has committed.
+fn has_committed(xacts: &Xacts, xact: u32) -> bool
+    ensures { result ≡ is_committed xacts.now xact }
+{
+    if xact > xacts.count() {
+        return false;
+    }
+    matches!(xacts.status(xact), XStatus::Committed(_))
+}
+
+/// Whether the writer of a version has committed.
+pub fn is_live(xacts: &Xacts, version: &Version) -> bool
+    ensures { result ≡ is_live xacts.now [] version.now }
+{
+    has_committed(xacts, version.writer)
 }
 
 /// Whether a version is one of its row.

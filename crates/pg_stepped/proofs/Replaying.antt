@@ -9,7 +9,7 @@ use Rattle.pg_relation.specs.Schedules.{next_session, settled_schedule}
 use Rattle.pg_relation.specs.Runs.{StepsTo}
 use Rattle.pg_relation.proofs.Runs.{entries_left, entries_fall, steps_to_first, steps_to_more, steps_stepped, steps_world, legal_stepped}
 use Rattle.pg_relation.proofs.Complete.{steps_complete}
-use Rattle.pg_board.specs.Board.{BoardView, MovedBy, first_board}
+use Rattle.pg_board.specs.Board.{BoardView, HasMoved, first_board}
 
 -- the board keeps the script, and has come so far by the stepped order
 pub record IsOnWay (script : Script) (board : BoardView) : Type 0 where
@@ -30,9 +30,9 @@ settled_board board = record board { schedule = settled_schedule board.script bo
 -- one turn of the loop: the next entry is made
 pub on_way_more : (script : Script) (old between new : BoardView) (session : ℕ) → IsOnWay script old →
     next_session old.script old.world old.schedule ≡ Some session → between ≡ settled_board old →
-    MovedBy session between new → IsOnWay script new
+    HasMoved session between new → IsOnWay script new
 on_way_more script old between new session way next is moved =
-    let m = subst (λ b. MovedBy session b new) is moved in
+    let m = subst (λ b. HasMoved session b new) is moved in
     record {
       keeps = rw m.script way.keeps;
       steps = rw (m.script, m.journal) (steps_to_more old.script old.journal old.world new.world old.schedule new.schedule session m.act
@@ -42,9 +42,9 @@ on_way_more script old between new session way next is moved =
 -- and fewer are to come
 pub turns_fall : (old between new : BoardView) (session : ℕ) →
     next_session old.script old.world old.schedule ≡ Some session → between ≡ settled_board old →
-    MovedBy session between new → turns_left new < turns_left old
+    HasMoved session between new → turns_left new < turns_left old
 turns_fall old between new session next is moved =
-    let m = subst (λ b. MovedBy session b new) is moved in
+    let m = subst (λ b. HasMoved session b new) is moved in
     rw m.script (entries_fall old.script old.world new.world old.schedule new.schedule session m.act next m.first m.world m.schedule)
 
 -- a run of the script: its journal, and the world that it leaves

@@ -1,5 +1,5 @@
 ghost use Rattle.std.specs.Prelude.{◌≡◌, ◌<◌, ℕ, Err, false, IfOk, length, OnOk};
-ghost use Rattle.pg_board.specs.Board.{MovedBy, first_board, has_ended, waits_for_lines};
+ghost use Rattle.pg_board.specs.Board.{HasMoved, MovedBy, first_board, has_ended, waits_for_lines};
 ghost use Rattle.pg_board.specs.declared.fault.BoardFault.TheVariants.{Setup};
 ghost use Rattle.pg_model.specs.declared.error.SqlError.{SqlError};
 ghost use Rattle.pg_model.specs.declared.script.Mode.TheVariants.{Stepped};
@@ -46,8 +46,25 @@ fn run_to_end(mut board: Board) -> Result<Finished, AllocError>
     }
 }
 
-/// Lets the session that moves next make its move.
+/// Lets the session that moves next go on until it has made its move.
+#[tactic(auto, using(crate::proofs::Going::has_moved))]
 fn move_next(board: &mut Board, session: u32) -> Result<(), AllocError>
+    requires within { session < length board.old.script.sessions }
+    requires served { waits_for_lines board.old session ≡ false }
+    requires unended { has_ended board.old session ≡ false }
+    ensures { OnOk result (HasMoved session board.old board.new) }
+{
+    let before = board.journal().len();
+    loop {
+        step_once(board, session)?;
+        if board.journal().len() > before {
+            return Ok(());
+        }
+    }
+}
+
+/// Lets the session make its next move, or come nearer to it.
+fn step_once(board: &mut Board, session: u32) -> Result<(), AllocError>
     requires within { session < length board.old.script.sessions }
     requires served { waits_for_lines board.old session ≡ false }
     requires unended { has_ended board.old session ≡ false }

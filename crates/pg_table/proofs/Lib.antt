@@ -1,3 +1,9 @@
 pub mod Lists
 pub mod Placed
-pub mod Waits
+pub mod Kept
+pub mod Shown
+pub mod Added
+pub mod Gone
+pub mod Scanned
+pub mod Read
+pub mod Steady

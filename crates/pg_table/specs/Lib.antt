@@ -1,2 +1,3 @@
-pub mod Waiting
+pub mod States
 pub mod Lending
+pub mod Scanned

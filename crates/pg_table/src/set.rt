@@ -1,7 +1,7 @@
 ghost use Rattle.std.specs.Prelude.{◌≡◌, ◌<◌, IfOk, Some, length, map};
 ghost use Rattle.std.specs.Option.{option_copied, option_copied_mut};
 ghost use Rattle.pg_lists.specs.Numbered.{item_at};
-ghost use Rattle.pg_world.specs.Tables.{commit as to_commit, empty_table, rollback as to_roll_back, table_after_end};
+ghost use Rattle.pg_table.specs.States.{empty_state, state_ended, state_undone};
 
 use crate::Table;
 use pg_model::Catalogue;
@@ -16,9 +16,9 @@ pub struct TableSet {
 
 impl Model for TableSet {
     ghost use Rattle.std.specs.Prelude.{List};
-    ghost use Rattle.pg_world.specs.declared.table.TableView.{TableView};
+    ghost use Rattle.pg_table.specs.States.{TableState};
 
-    ghost Value = { List TableView };
+    ghost Value = { List TableState };
 
     ghost view = { λ set. set.tables.items };
 }
@@ -29,7 +29,7 @@ impl TableSet {
 
     /// The empty tables of a catalogue, or a refusal for want of memory alone.
     pub fn new(alloc: Global, catalogue: &Catalogue) -> Result<TableSet, AllocError>
-        ensures { IfOk result (λ set. set ≡ map (λ shape. empty_table) catalogue.now) }
+        ensures { IfOk result (λ set. set ≡ map (λ shape. empty_state) catalogue.now) }
     {
         let mut tables = Vec::new(alloc);
         for _shape in catalogue.as_slice() {
@@ -77,16 +77,18 @@ impl TableSet {
         self.tables.get_mut(number)
     }
 
-    /// A transaction is rolled back in every table. This takes no memory.
+    /// A transaction is rolled back in every table. This takes no memory, and costs what the
+    /// transaction wrote, and a look at each table.
     pub fn undo_all(&mut self, xact: u32)
-        ensures { self.new ≡ map (table_after_end xact to_roll_back) self.old }
+        ensures { self.new ≡ map (state_undone xact) self.old }
     {
         undo_each(&mut self.tables, xact);
     }
 
-    /// A transaction has committed, in every table. This takes no memory.
+    /// A transaction has committed, in every table. This takes no memory, and costs what the
+    /// transaction wrote, and a look at each table.
     pub fn ended_all(&mut self, xact: u32)
-        ensures { self.new ≡ map (table_after_end xact to_commit) self.old }
+        ensures { self.new ≡ map (state_ended xact) self.old }
     {
         end_each(&mut self.tables, xact);
     }
@@ -95,7 +97,7 @@ impl TableSet {
 /// A transaction is rolled back in each of the tables.
 #[tactic(auto, using(crate::proofs::Lists::each_changed))]
 fn undo_each(tables: &mut [Table], xact: u32)
-    ensures { tables.new ≡ map (table_after_end xact to_roll_back) tables.old }
+    ensures { tables.new ≡ map (state_undone xact) tables.old }
 {
     for table in tables.iter_mut() {
         table.undo(xact);
@@ -105,7 +107,7 @@ fn undo_each(tables: &mut [Table], xact: u32)
 /// A transaction has committed, in each of the tables.
 #[tactic(auto, using(crate::proofs::Lists::each_changed))]
 fn end_each(tables: &mut [Table], xact: u32)
-    ensures { tables.new ≡ map (table_after_end xact to_commit) tables.old }
+    ensures { tables.new ≡ map (state_ended xact) tables.old }
 {
     for table in tables.iter_mut() {
         table.ended(xact);

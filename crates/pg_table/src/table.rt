@@ -1,21 +1,16 @@
-ghost use Rattle.std.specs.Prelude.{◌≡◌, ◌<◌, [], IfOk, IfSome, None, OnErr, OnOk, length, slice_get};
-ghost use Rattle.std.specs.Option.{option_map_or};
-ghost use Rattle.pg_heap.specs.Current.{live_rows};
-ghost use Rattle.pg_heap.specs.Rows.{rows_without};
-ghost use Rattle.pg_lists.specs.Numbered.{with_changed_nth_item};
-ghost use Rattle.pg_world.specs.Candidates.{seen_rows};
-ghost use Rattle.pg_world.specs.Tables.{commit as to_commit, empty_table, next_row, placed_at, placed_beside, placed_by_others, rollback as to_roll_back, row_added, row_inserted, row_placed, table_after_end};
+ghost use Rattle.std.specs.Prelude.{◌≡◌, ◌+◌, ◌<◌, ◌≤◌, IfOk, IfSome, OnErr, OnOk, Some, length};
+ghost use Rattle.pg_heap.specs.Pieces.{piece_from};
+ghost use Rattle.pg_heap.specs.Rows.{values_of};
+ghost use Rattle.pg_rows.specs.Scans.{seen_in_piece};
+ghost use Rattle.pg_rows.specs.Stores.{HasValues, current_number, newest_number, version_of};
+ghost use Rattle.pg_table.specs.States.{IsTable, empty_state, row_added_in, row_inserted_in, row_placed_in, state_ended, state_undone, table_shown, waiting_number};
+ghost use Rattle.pg_world.specs.Tables.{next_row};
 ghost use Rattle.pg_xacts.specs.Snapshots.{WasTakenOf};
 
-use crate::copies::copy_version;
-use crate::reading::{live_values, seen_version};
-use crate::stored::StoredRow;
-use crate::waiting::Waiting;
-use pg_heap::Version;
-use pg_lists::{Items, TryCopy};
-use pg_model::Rows;
+use crate::Placing;
+use pg_heap::State;
+use pg_rows::{RowStore, Scan};
 use pg_values::Values;
-use pg_world::SeenRow;
 use pg_xacts::{Me, Snapshot, Xacts};
 use std::alloc::{AllocError, Global};
 use std::marker::Model;
@@ -23,229 +18,171 @@ use std::marker::Model;
 /// A table of the world.
 #[derive(Drop)]
 pub struct Table {
-    alloc: Global,
-    /// A row for each number that it has drawn, in order of number.
-    rows: Vec<StoredRow>,
-    /// What is placed there. None of these rows has a version.
-    placed: Vec<Waiting>,
+    pub(crate) rows: RowStore,
+    /// For each row number who drew it, and its first version.
+    placings: Vec<Placing>,
 }
 
 impl Model for Table {
-    ghost use Rattle.pg_world.specs.declared.table.TableView.{TableView};
-    ghost use Rattle.pg_table.specs.Waiting.{AreWaiting};
+    ghost use Rattle.pg_table.specs.States.{IsTable, TableState};
 
-    ghost Value = { TableView };
+    ghost Value = { TableState };
 
-    ghost view = { λ t. record { rows = t.rows.items; placed = t.placed.items } };
+    ghost view = { λ t. record { store = t.rows; placings = t.placings.items } };
 
-    ghost invariant = { λ t. AreWaiting t.rows.items t.placed.items };
+    ghost invariant = { λ t. IsTable (record { store = t.rows; placings = t.placings.items }) };
 }
 
 impl Table {
     /// A table of which no row number was drawn.
     pub fn new(alloc: Global) -> Table
-        ensures { result ≡ empty_table }
+        ensures { result ≡ empty_state }
     {
         Table {
-            alloc,
-            rows: Vec::new(alloc),
-            placed: Vec::new(alloc),
+            rows: RowStore::new(alloc),
+            placings: Vec::new(alloc),
         }
     }
 
     /// How many row numbers were drawn.
     pub fn rows_drawn(&self) -> u64
-        ensures { result ≡ length self.now.rows }
+        ensures { result ≡ self.now.store.drawn }
     {
-        self.rows.len() as u64
+        self.rows.count()
     }
 
     /// The row number that is drawn next.
+    #[tactic(auto, using(pg_rows::proofs::Rows::length_rows))]
     pub fn next_row(&self) -> u64
-        ensures { result ≡ next_row self.now }
+        ensures { result ≡ next_row (table_shown self.now) }
     {
-        self.rows.len() as u64 + 1
+        self.placings.len() as u64 + 1
+    }
+
+    /// How many version numbers were drawn.
+    pub fn versions_drawn(&self) -> u64
+        ensures { result ≡ length self.now.store.versions }
+    {
+        self.rows.versions_drawn()
     }
 
     /// Draws a row number for a proposed row, whose values wait there to be stored, and answers
     /// it; or refuses for want of memory alone and leaves the table as it was.
     pub fn place(&mut self, me: Me, values: Values) -> Result<u64, AllocError>
-        ensures row { IfOk result (λ row. row ≡ next_row self.old) }
-        ensures ok { OnOk result (self.new ≡ row_placed self.old me values) }
+        ensures row { IfOk result (λ row. row ≡ self.old.store.drawn + 1) }
+        ensures ok { OnOk result (self.new ≡ row_placed_in self.old me values) }
         ensures err { OnErr result (self.new ≡ self.old) }
+        ensures kept { IsTable self.old }
     {
-        let number = self.rows.len() as u64 + 1;
-        let waiting = Waiting::new(self.alloc, number, me, values)?;
-        self.rows.reserve(1)?;
-        self.placed.reserve(1)?;
-        self.rows.push_reserved(StoredRow::new(self.alloc, number));
-        self.placed.push_reserved(waiting);
-        Ok(number)
+        self.placings.reserve(1)?;
+        let (row, version) = self.rows.draw(&me, values)?;
+        self.placings.push_reserved(Placing {
+            session: me.session,
+            version,
+        });
+        Ok(row)
     }
 
-    /// What is placed under a row number becomes the row's first version. This takes no memory.
-    pub fn settle(&mut self, me: Me, row: u64)
-        ensures { self.new ≡ row_inserted self.old me row }
+    /// What waits under a row number, if anything does, becomes the row's first version. This takes
+    /// no memory.
+    pub fn settle(&mut self, row: u64)
+        ensures settled { self.new ≡ row_inserted_in self.old row }
+        ensures kept { IsTable self.old }
     {
-        if let Some(waiting) = take_placed(&mut self.placed, row) {
-            store(&mut self.rows, row, waiting.into_versions(me));
+        if let Some(version) = self.waiting(row) {
+            self.rows.attach(version);
         }
     }
 
     /// Draws a row number and stores the values there; or refuses for want of memory alone and
     /// leaves the table as it was.
     pub fn add(&mut self, me: Me, values: Values) -> Result<(), AllocError>
-        ensures ok { OnOk result (self.new ≡ row_added self.old me values) }
+        ensures ok { OnOk result (self.new ≡ row_added_in self.old me values) }
         ensures err { OnErr result (self.new ≡ self.old) }
+        ensures kept { IsTable self.old }
     {
-        let number = self.rows.len() as u64 + 1;
-        let version = Version {
-            values: Some(values),
-            writer: me.xact,
-            command: me.command,
-        };
-        let row = StoredRow::with_version(self.alloc, number, version)?;
-        self.rows.push(row)?;
+        let row = self.place(me, values)?;
+        self.settle(row);
         Ok(())
     }
 
     /// A transaction is rolled back: its versions are taken away, and what it placed is given up.
-    /// This takes no memory.
+    /// This takes no memory, and costs what the transaction wrote.
     pub fn undo(&mut self, xact: u32)
-        ensures { self.new ≡ table_after_end xact to_roll_back self.old }
+        ensures undone { self.new ≡ state_undone xact self.old }
+        ensures kept { IsTable self.old }
     {
-        undo_all_rows(&mut self.rows, xact);
-        give_up(&mut self.placed, xact);
+        self.rows.undo(xact);
     }
 
     /// A transaction has committed: what it placed and did not store is given up. This takes no
-    /// memory.
+    /// memory, and costs what the transaction wrote.
     pub fn ended(&mut self, xact: u32)
-        ensures { self.new ≡ table_after_end xact to_commit self.old }
+        ensures ended { self.new ≡ state_ended xact self.old }
+        ensures kept { IsTable self.old }
     {
-        give_up(&mut self.placed, xact);
+        self.rows.ended(xact);
     }
 
-    /// The rows that a statement sees, in order of row number; or a refusal for want of memory
+    /// The number of the newest version of a row, or `None` where no version is left.
+    pub fn newest(&self, row: u64) -> Option<u64>
+        requires first { 0 < row }
+        requires drawn { row ≤ self.now.store.drawn }
+        ensures { result ≡ newest_number self.now.store.versions row }
+    {
+        self.rows.newest(row)
+    }
+
+    /// The number of the current version of a row for the transaction of `me`, or `None` where the
+    /// row is gone.
+    pub fn current(&self, xacts: &Xacts, me: &Me, row: u64) -> Option<u64>
+        requires first { 0 < row }
+        requires drawn { row ≤ self.now.store.drawn }
+        ensures number { result
+            ≡ current_number xacts.now me.now.xact self.now.store.versions row }
+        ensures there { IfSome result (HasValues self.now.store.versions) }
+    {
+        self.rows.current(xacts, me, row)
+    }
+
+    /// The values of a version that has some.
+    pub fn values(&self, version: u64) -> &Values
+        requires { HasValues self.now.store.versions version }
+        ensures { values_of (version_of self.now.store.versions version) ≡ Some result.now }
+    {
+        self.rows.values(version)
+    }
+
+    /// The versions that a statement of `me` sees, with their rows, among at most 64 version
+    /// numbers from `from` on, and at least one where any is left; or a refusal for want of memory
     /// alone.
-    pub fn seen(
+    pub fn visible(
         &self,
         alloc: Global,
         xacts: &Xacts,
         snapshot: &Snapshot,
-        me: Me,
-    ) -> Result<Items<SeenRow>, AllocError>
+        me: &Me,
+        from: u64,
+    ) -> Result<Scan, AllocError>
         requires { WasTakenOf xacts.now snapshot.now }
-        ensures { IfOk result (λ rows. rows
-            ≡ seen_rows xacts.now snapshot.now.commits me self.now) }
+        ensures seen { IfOk result (λ scan. scan.seen
+            ≡ seen_in_piece xacts.now snapshot.now.commits me.now self.now.store.versions from) }
+        ensures next { IfOk result (λ scan. scan.next
+            ≡ (piece_from (length self.now.store.versions) from).next) }
+        ensures kept { IsTable self.now }
     {
-        let mut rows = Items::new(alloc);
-        for row in &self.rows {
-            if let Some(version) = seen_version(xacts, snapshot, me, row.versions()) {
-                if version.values.is_some() {
-                    let version = copy_version(alloc, version)?;
-                    rows.push(SeenRow {
-                        row: row.number(),
-                        version,
-                    })?;
-                }
-            }
-        }
-        Ok(rows)
+        self.rows.visible(alloc, xacts, snapshot, me, from)
     }
 
-    /// The values of the committed rows, in order of row number; or a refusal for want of memory
-    /// alone.
-    pub fn committed(&self, alloc: Global, xacts: &Xacts) -> Result<Rows, AllocError>
-        ensures { IfOk result (λ rows. rows ≡ live_rows xacts.now [] self.now.rows) }
+    /// The version number of what waits under a row number, if anything does.
+    fn waiting(&self, row: u64) -> Option<u64>
+        ensures { result ≡ waiting_number self.now row }
     {
-        let mut rows = Items::new(alloc);
-        for row in &self.rows {
-            if let Some(values) = live_values(xacts, row.versions()) {
-                rows.push(values.try_copy(alloc)?)?;
-            }
+        let before = row.checked_sub(1)?;
+        let placing = self.placings.get(before as usize)?;
+        match self.rows.state(placing.version) {
+            Some(State::Placed) => Some(placing.version),
+            Some(State::Settled) | Some(State::Dead) | None => None,
         }
-        Ok(rows)
-    }
-}
-
-/// Takes out the first that waits under a row number, and gives up all others there.
-fn take_placed(placed: &mut Vec<Waiting>, row: u64) -> Option<Waiting>
-    ensures taken { result ≡ placed_at placed.old.items row }
-    ensures others { placed.new.items ≡ placed_beside placed.old.items row }
-{
-    let first = take_first(placed, row);
-    keep_beside(placed, row);
-    first
-}
-
-/// Takes out the first that waits under a row number.
-fn take_first(placed: &mut Vec<Waiting>, row: u64) -> Option<Waiting>
-    ensures taken { result ≡ placed_at placed.old.items row }
-    ensures others { placed_beside placed.new.items row ≡ placed_beside placed.old.items row }
-{
-    match place_of(placed, row) {
-        None => None,
-        Some(place) => Some(placed.remove(place)),
-    }
-}
-
-/// What waits under other row numbers stays.
-fn keep_beside(placed: &mut Vec<Waiting>, row: u64)
-    ensures { placed.new.items ≡ placed_beside placed.old.items row }
-{
-    placed.retain(|waiting| waiting.row() != row);
-}
-
-/// What a transaction has placed is given up.
-fn give_up(placed: &mut Vec<Waiting>, xact: u32)
-    ensures { placed.new.items ≡ placed_by_others placed.old.items xact }
-{
-    placed.retain(|waiting| waiting.xact() != xact);
-}
-
-/// The place of the first that waits under a row number.
-fn place_of(placed: &[Waiting], row: u64) -> Option<usize>
-    ensures first { option_map_or (slice_get placed.now) result None ≡ placed_at placed.now row }
-    ensures within { IfSome result (λ place. place < length placed.now) }
-{
-    let mut place = 0;
-    while place < placed.len() {
-        if placed[place].row() == row {
-            return Some(place);
-        }
-        place += 1;
-    }
-    None
-}
-
-/// The row of that number, if there is one, has the versions given in place of its own.
-fn store(rows: &mut Vec<StoredRow>, row: u64, versions: Vec<Version>)
-    ensures { rows.new.items
-        ≡ with_changed_nth_item (λ stored. record stored { versions = versions.items })
-        rows.old.items row }
-{
-    let Some(before) = row.checked_sub(1) else {
-        return;
-    };
-    if before < rows.len() as u64 {
-        rows[before as usize].set_versions(versions);
-    }
-}
-
-/// The versions of a transaction are taken away from all rows.
-fn undo_all_rows(rows: &mut Vec<StoredRow>, xact: u32)
-    ensures { rows.new.items ≡ rows_without xact rows.old.items }
-{
-    undo_rows(rows, xact);
-}
-
-/// The versions of a transaction are taken away from each of the rows.
-#[tactic(auto, using(crate::proofs::Lists::each_changed))]
-fn undo_rows(rows: &mut [StoredRow], xact: u32)
-    ensures { rows.new ≡ rows_without xact rows.old }
-{
-    for row in rows.iter_mut() {
-        row.undo(xact);
     }
 }

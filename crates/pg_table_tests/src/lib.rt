@@ -2,4 +2,8 @@
 #![tactic(auto)]
 
 #[cfg(test)]
+mod helpers;
+#[cfg(test)]
+mod random;
+#[cfg(test)]
 mod tests;

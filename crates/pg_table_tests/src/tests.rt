@@ -1,74 +1,20 @@
-ghost use Rattle.std.specs.Prelude.{◌≡◌, ◌<◌, IfSome, Some, length};
-ghost use Rattle.pg_lists.specs.Numbered.{with_changed_item};
-ghost use Rattle.pg_world.specs.Tables.{row_inserted};
-ghost use Rattle.pg_xacts.specs.Transactions.{status_of};
-
-use pg_heap::Version;
+use crate::helpers::{begin, commit, current, me, newest, number, number_in, values};
+use crate::random::first_wrong_step;
 use pg_lists::Items;
 use pg_model::{Catalogue, TableShape};
 use pg_names::{Name, NamedItems};
 use pg_shared::Shared;
 use pg_table::*;
-use pg_values::{Value, Values};
-use pg_xacts::{Me, XStatus, Xacts};
+use pg_xacts::{Me, Xacts};
 use std::alloc::{AllocError, Global};
 use std::test::Fail;
-
-/// The values of a row with one column.
-fn values(alloc: Global, number: i32) -> Result<Values, AllocError> {
-    let mut values = Items::new(alloc);
-    values.push(Value::Int(number))?;
-    Ok(values)
-}
-
-fn me(xact: u32, command: u32) -> Me {
-    Me {
-        session: 0,
-        xact,
-        command,
-    }
-}
 
 /// Two transactions that run.
 fn two(alloc: Global) -> Result<Xacts, AllocError> {
     let mut xacts = Xacts::new(alloc);
-    for session in 0..2 {
-        if xacts.count() < u32::MAX {
-            xacts.begin(session)?;
-        }
-    }
+    begin(&mut xacts)?;
+    begin(&mut xacts)?;
     Ok(xacts)
-}
-
-fn status(xacts: &Xacts, xact: u32) -> Option<XStatus>
-    ensures { IfSome result (λ status. status_of xacts.now xact ≡ Some status) }
-{
-    if xact > xacts.count() {
-        return None;
-    }
-    Some(xacts.status(xact))
-}
-
-fn commit(xacts: &mut Xacts, xact: u32) {
-    if status(xacts, xact) == Some(XStatus::Running) {
-        xacts.commit(xact);
-    }
-}
-
-/// The number that is the only value of a row; 0 where there is no such value.
-fn number(values: &[Value]) -> i32 {
-    match values {
-        [Value::Int(number)] => *number,
-        _ => 0,
-    }
-}
-
-/// The number of a version's row; 0 where it says that the row is gone.
-fn number_in(version: &Version) -> i32 {
-    match &version.values {
-        Some(values) => number(values.as_slice()),
-        None => 0,
-    }
 }
 
 /// What a statement sees whose snapshot is taken now: the row number and the value of each row.
@@ -92,7 +38,7 @@ fn committed(alloc: Global, table: &Table, xacts: &Xacts) -> Result<Vec<i32>, Al
     let rows = table.committed(alloc, xacts)?;
     let mut committed = Vec::new(alloc);
     for values in rows.as_slice() {
-        committed.push(number(values.as_slice()))?;
+        committed.push(number(values))?;
     }
     Ok(committed)
 }
@@ -104,15 +50,6 @@ fn three(alloc: Global) -> Result<Table, AllocError> {
     table.place(me(1, 1), values(alloc, 20)?)?;
     table.place(me(2, 1), values(alloc, 30)?)?;
     Ok(table)
-}
-
-/// A table of the set stores what is placed there.
-fn settle_in(tables: &mut TableSet, number: usize, me: Me, row: u64)
-    requires { number < length tables.old }
-    ensures { tables.new
-        ≡ with_changed_item (λ table. row_inserted table me row) tables.old number }
-{
-    tables.item_mut(number).settle(me, row);
 }
 
 /// A catalogue of one table.
@@ -132,7 +69,7 @@ fn a_stored_row_is_seen_by_its_own_and_then_by_all(rt: HostRuntime) -> Result<()
     let mut xacts = two(alloc)?;
     let mut table = three(alloc)?;
     let both = [(1, 10), (2, 20)];
-    table.settle(me(1, 1), 2);
+    table.settle(2);
     assert_eq!(rt;
         seen(alloc, &table, &xacts, me(1, 1))?.as_slice(),
         [(1, 10)].as_slice()
@@ -170,14 +107,29 @@ fn each_row_draws_a_number(rt: HostRuntime) -> Result<(), Fail> {
 }
 
 #[test]
+fn a_stored_row_is_current_for_its_own_and_then_for_all(rt: HostRuntime) -> Result<(), Fail> {
+    let alloc = rt.alloc();
+    let mut xacts = two(alloc)?;
+    let mut table = three(alloc)?;
+    assert_eq!(rt; newest(&table, 2), None);
+    table.settle(2);
+    assert_eq!(rt; newest(&table, 2), Some(2));
+    assert_eq!(rt; current(&table, &xacts, &me(1, 1), 2), Some(2));
+    assert_eq!(rt; current(&table, &xacts, &me(2, 1), 2), None);
+    commit(&mut xacts, 1);
+    assert_eq!(rt; current(&table, &xacts, &me(2, 1), 2), Some(2));
+    Ok(())
+}
+
+#[test]
 fn a_rollback_takes_versions_and_placed_rows(rt: HostRuntime) -> Result<(), Fail> {
     let alloc = rt.alloc();
     let mut xacts = two(alloc)?;
     let mut table = three(alloc)?;
-    table.settle(me(1, 1), 2);
+    table.settle(2);
     table.undo(1);
     table.undo(2);
-    table.settle(me(2, 1), 3);
+    table.settle(3);
     commit(&mut xacts, 2);
     assert_eq!(rt;
         seen(alloc, &table, &xacts, me(1, 2))?.as_slice(),
@@ -200,8 +152,8 @@ fn a_transaction_ends_in_every_table(rt: HostRuntime) -> Result<(), Fail> {
         table.add(me(2, 1), values(alloc, 20)?)?;
         table.place(me(2, 1), values(alloc, 30)?)?;
     }
-    if tables.len() > 0 {
-        settle_in(&mut tables, 0, me(2, 1), 3);
+    if let Some(table) = tables.get_mut(0) {
+        table.settle(3);
     }
     tables.undo_all(1);
     commit(&mut xacts, 2);
@@ -216,5 +168,15 @@ fn a_transaction_ends_in_every_table(rt: HostRuntime) -> Result<(), Fail> {
     assert_eq!(rt; tables.len(), 1);
     assert!(rt; tables.get(0).is_some());
     assert!(rt; tables.get(1).is_none());
+    Ok(())
+}
+
+#[test]
+fn random_steps_agree_with_a_plain_list(rt: HostRuntime) -> Result<(), Fail> {
+    let alloc = rt.alloc();
+    assert_eq!(rt; first_wrong_step(alloc, 1, 600)?, None);
+    assert_eq!(rt; first_wrong_step(alloc, 2, 600)?, None);
+    assert_eq!(rt; first_wrong_step(alloc, 3, 600)?, None);
+    assert_eq!(rt; first_wrong_step(alloc, 4, 600)?, None);
     Ok(())
 }

@@ -1,19 +1,17 @@
 -- Each way in which a call ends meets what is promised.
-use Rattle.std.proofs.Common.{◌≡◌, ◌≢◌, ◌≤◌, ◌+◌, ◌++◌, ◌⊎◌, ◌↔◌, inl, inr, ℕ, List, Option, Some, None, Ok, Err, length, refl, sym, ◌∙◌, ap, subst, arith, length-append}
+use Rattle.std.proofs.Common.{◌≡◌, ◌≢◌, ◌≤◌, ◌+◌, ◌⊎◌, ◌↔◌, inl, inr, ℕ, List, Option, Some, None, Err, length, refl, sym, ◌∙◌, ap, subst, arith, length-append}
 use Rattle.std.specs.Prelude.{String, Result}
 use Rattle.std.specs.declared.alloc.Global.{Global}
 use Rattle.std.specs.Io.KnownBytes.{Consumes}
-use Rattle.pg_model.specs.declared.script.Mode.{Mode}
 use Rattle.pg_model.specs.declared.script.Mode.TheVariants as mode
 use Rattle.pg_model.specs.declared.script.Script.{Script}
 use Rattle.pg_outside.specs.Causes.{Rose}
 use Rattle.pg_outside.specs.Reads.{ReadsFront, ReadsWhole}
-use Rattle.pg_relation.specs.Setup.{SetupError, setup_outcome}
+use Rattle.pg_relation.specs.Setup.{setup_outcome}
 use Rattle.pg_script.proofs.OneReading.{bytes_say_one_script, no_script_is_refused}
 use Rattle.pg_script.specs.declared.fault.Reason.{Reason}
 use Rattle.pg_script.specs.Laws.{HaveSameParts}
 use Rattle.pg_script.specs.Reading.{most_bytes}
-use Rattle.pg_world.specs.declared.table.TableView.{TableView}
 use Rattle.pgrc.specs.declared.prepare.Fault.{Fault}
 use Rattle.pgrc.specs.declared.prepare.Fault.TheVariants as fault
 use Rattle.pgrc.specs.declared.prepare.Run.{Run}

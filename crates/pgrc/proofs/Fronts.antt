@@ -1,5 +1,5 @@
 -- A source that was not read has given no byte, and a sink that nothing was written to has taken none.
-use Rattle.std.proofs.Common.{ℕ, List, ◌++◌, [], Option, None, Some, arith, inl, refl, sym}
+use Rattle.std.proofs.Common.{ℕ, List, [], Option, None, Some, arith, inl, refl, sym}
 use Rattle.std.proofs.lemmas.List.{append-nil}
 use Rattle.std.specs.Io.KnownBytes.{Appends}
 use Rattle.pg_outside.specs.Reads.{ReadsFront}

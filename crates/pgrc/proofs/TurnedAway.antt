@@ -1,6 +1,5 @@
 -- What is told of an input that is not run.
 use Rattle.std.proofs.Common.{◌≡◌, ℕ, List, Err, inl, inr, refl, subst, sym}
-use Rattle.std.specs.Prelude.{Result}
 use Rattle.pg_model.specs.declared.script.Mode.TheVariants as mode
 use Rattle.pg_model.specs.declared.script.Script.{Script}
 use Rattle.pg_script.specs.declared.fault.Reason.{Reason}
@@ -9,9 +8,8 @@ use Rattle.pg_script.specs.declared.fault.ScriptFault.{ScriptFault}
 use Rattle.pg_script.specs.declared.fault.ScriptFault.TheVariants as script_fault
 use Rattle.pg_script.specs.Reading.{IsRead, Say}
 use Rattle.pgrc.specs.declared.prepare.Fault.{Fault}
-use Rattle.pgrc.specs.declared.prepare.Fault.TheVariants as fault
 use Rattle.pgrc.specs.Prepared.{IsReading, IsRefusal}
-use Rattle.pgrc.specs.Refusals.{AreTurnedAway, refusal_text}
+use Rattle.pgrc.specs.Refusals.{AreTurnedAway}
 
 -- bytes that are turned away are so with their line
 told_off : (bytes : List ℕ) (line : ℕ) (why : Reason) (refusal : Fault) → AreTurnedAway bytes line why →

@@ -2,7 +2,7 @@
 use Rattle.std.proofs.Common.{◌≡◌, drop}
 use Rattle.pg_world.specs.Candidates.{column_values}
 use Rattle.pg_world.specs.Evaluation.{all_values}
-use Rattle.pg_plans.specs.Outcomes.{values_behind}
+use Rattle.pg_returning.specs.Outcomes.{values_behind}
 use Rattle.pg_plans.proofs.inserts.column_values.Given as goal
 
 abbrev pub invariant-loop-column : goal.invariant-loop-column

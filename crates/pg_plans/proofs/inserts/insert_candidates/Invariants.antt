@@ -2,7 +2,7 @@
 use Rattle.std.proofs.Common.{◌≡◌, drop, map}
 use Rattle.pg_world.specs.Candidates.{proposed_candidate, proposed_row}
 use Rattle.pg_world.specs.Evaluation.{all_values, with_value}
-use Rattle.pg_plans.specs.Outcomes.{values_behind}
+use Rattle.pg_returning.specs.Outcomes.{values_behind}
 use Rattle.pg_plans.proofs.inserts.insert_candidates.Given as goal
 
 abbrev pub invariant-loop-row : goal.invariant-loop-row

@@ -2,7 +2,7 @@
 use Rattle.std.proofs.Common.{◌≡◌, drop}
 use Rattle.pg_world.specs.Candidates.{passing_combinations}
 use Rattle.pg_plans.specs.LentRows.{all_lent_rows}
-use Rattle.pg_plans.specs.Outcomes.{values_behind}
+use Rattle.pg_returning.specs.Outcomes.{values_behind}
 use Rattle.pg_plans.proofs.selects.passing_combinations.Given as goal
 
 abbrev pub invariant-loop-partners : goal.invariant-loop-partners

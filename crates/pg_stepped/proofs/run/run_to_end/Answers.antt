@@ -1,5 +1,5 @@
 -- One turn more, and the end of the run.
-use Rattle.std.proofs.Common.{◌≡◌, ap, sym, ◌∙◌}
+use Rattle.std.proofs.Common.{ap, sym, ◌∙◌}
 use Rattle.pg_relation.specs.Printed.{tables_of}
 use Rattle.pg_stepped.proofs.Replaying.{on_way_end, on_way_more}
 use Rattle.pg_stepped.proofs.run.run_to_end.Goals as goal

@@ -1,10 +1,10 @@
 -- The tables so far, with those to come as they will be, are all of them.
 use Rattle.std.proofs.Common.{◌≡◌, ◌++◌, drop, map, take}
-use Rattle.pg_world.specs.Tables.{rollback, table_after_end}
+use Rattle.pg_table.specs.States.{state_undone}
 use Rattle.pg_table.proofs.set.undo_each.Given as goal
 
 abbrev pub invariant-loop-table : goal.invariant-loop-table
 invariant-loop-table l =
     take l.table-index l.tables
-    ++ map (table_after_end l.xact rollback) (drop l.table-index l.tables)
-    ≡ map (table_after_end l.xact rollback) l.initial.tables
+    ++ map (state_undone l.xact) (drop l.table-index l.tables)
+    ≡ map (state_undone l.xact) l.initial.tables

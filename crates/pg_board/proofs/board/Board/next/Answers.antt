@@ -1,15 +1,26 @@
-use Rattle.std.proofs.Common.{rules, ◌∙◌, subst}
+use Rattle.std.proofs.Common.{◌∙◌, rules, subst}
+use Rattle.pg_relation.specs.Journals.{world_after}
 use Rattle.pg_relation.specs.Sound.{IsSound}
+use Rattle.pg_relation.proofs.Sound.{sound_after}
 use Rattle.pg_board.specs.Board.{BoardView}
 use Rattle.pg_board.proofs.Next.{next_free, next_in_script, next_none}
+use Rattle.pg_board.proofs.Tying.{remaining_same, tied_few}
 use Rattle.pg_board.proofs.board.Board.next.Goals as goal
 
+pub remaining_session-requires : goal.remaining_session-requires
+remaining_session-requires c =
+    tied_few c.self.inside.script c.self.inside.journal.items c.self.inside.server c.self.inside.queues c.self.inside.taken c.self.invariant
+
 pub returns-clause-session : goal.returns-clause-session
-returns-clause-session c = search rules
+returns-clause-session c =
+    let left = c.remaining_session.ensures
+    ∙ remaining_same c.self.inside.script c.self.inside.server (world_after c.self.inside.script c.self.inside.journal.items) c.self.invariant.serves in
+    search (rules, left)
 
 pub returns-clause-within : goal.returns-clause-within
 returns-clause-within c =
-    let sound = subst (λ (v : BoardView). IsSound v.script v.world) (c.self.view_is ∙ c.settle.ensures) c.self.invariant.sound in
+    let sound = subst (λ (v : BoardView). IsSound v.script v.world) (c.self.view_is ∙ c.settle.ensures)
+    (sound_after c.self.inside.script c.self.inside.journal.items c.self.invariant.legal) in
     rw c.settle.ensures
     (next_in_script c.args.self.now.script c.args.self.now.world c.args.self.now.schedule c.or.result sound (returns-clause-session c))
 

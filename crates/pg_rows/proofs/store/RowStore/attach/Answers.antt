@@ -1,4 +1,4 @@
-use Rattle.std.proofs.Common.{ap, ap₂, length, length-set, List, ℕ, Some, ◌-◌, ◌∙◌}
+use Rattle.std.proofs.Common.{ap, ap₂, length-set, List, ℕ, Some, ◌-◌, ◌∙◌}
 use Rattle.pg_heap.specs.declared.slot.State.TheVariants.{Settled}
 use Rattle.pg_rows.specs.Stores.{Stored, StoreView, state_of, with_version_state}
 use Rattle.pg_rows.specs.Kept.{stored_slots}

@@ -1,4 +1,4 @@
-use Rattle.std.proofs.Common.{ap, arith, length, subst, sym, refl}
+use Rattle.std.proofs.Common.{ap, arith, subst, sym, refl}
 use Rattle.pg_heap.specs.Slots.{first_slot}
 use Rattle.pg_rows.specs.Stores.{HasNoDraft}
 use Rattle.pg_rows.proofs.Chains.{chained_placed}

@@ -1,4 +1,4 @@
-use Rattle.std.proofs.Common.{Some, None, ◌+◌, List, Option, ℕ, [], ◌∷◌, ◌++◌, arith, length, length-append, refl}
+use Rattle.std.proofs.Common.{Some, None, ◌+◌, List, Option, ℕ, [], ◌∷◌, ◌++◌, arith, length-append, refl}
 use Rattle.pg_heap.specs.Slots.{first_slot}
 use Rattle.pg_rows.proofs.Chains.{chained_drawn, chained_placed, no_draft_yet}
 use Rattle.pg_rows.proofs.store.RowStore.draw.Goals as goal

@@ -1,4 +1,4 @@
-use Rattle.std.proofs.Common.{subst, ◌∙◌}
+use Rattle.std.proofs.Common.{subst}
 use Rattle.pg_rows.proofs.Ended.{IsEnding, ending_first, ending_last, ending_less, ending_more, ending_within}
 use Rattle.pg_rows.proofs.store.RowStore.ended.Goals as goal
 

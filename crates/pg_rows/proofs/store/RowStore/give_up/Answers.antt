@@ -1,6 +1,6 @@
 use Rattle.std.proofs.Common.{ap, option_map, sym, ◌∙◌}
 use Rattle.pg_rows.specs.Stores.{stored_of}
-use Rattle.pg_rows.proofs.Ended.{given_up_draft, given_up_none, shown_state}
+use Rattle.pg_rows.proofs.Ended.{given_up_none, shown_state}
 use Rattle.pg_rows.proofs.store.RowStore.give_up.Goals as goal
 
 pub returns-else-waits : goal.returns-else-waits

@@ -1,5 +1,4 @@
-use Rattle.std.proofs.Common.{ap, option_map, sym, ◌∙◌}
-use Rattle.pg_rows.specs.Stores.{stored_of}
+use Rattle.std.proofs.Common.{ap, sym, ◌∙◌}
 use Rattle.pg_rows.proofs.Shown.{nothing_seen, shown_row, shown_version, something_seen}
 use Rattle.pg_rows.proofs.store.RowStore.seen_at.Goals as goal
 

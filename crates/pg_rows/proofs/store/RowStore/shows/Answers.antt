@@ -1,7 +1,5 @@
-use Rattle.std.proofs.Common.{ap, sym, ◌≡◌, length, ◌∙◌}
+use Rattle.std.proofs.Common.{ap, sym, ◌∙◌}
 use Rattle.pg_heap.specs.Seen.{is_seen}
-use Rattle.pg_rows.specs.Stores.{Stored}
-use Rattle.pg_rows.specs.Kept.{stored_slots}
 use Rattle.pg_rows.proofs.Shown.{next_within, not_accepted, not_newest, row_within, shown_version}
 use Rattle.pg_rows.proofs.store.RowStore.shows.Goals as goal
 

@@ -1,4 +1,4 @@
-use Rattle.std.proofs.Common.{ap, ap₂, length, List, ℕ, subst, sym, ◌∙◌}
+use Rattle.std.proofs.Common.{ap, ap₂, List, ℕ, subst, sym, ◌∙◌}
 use Rattle.pg_rows.specs.Stores.{StandBehind, Stored, StoreView, store_without}
 use Rattle.pg_rows.specs.Kept.{stored_slots}
 use Rattle.pg_rows.proofs.Unwound.{chained_undone, stored_undone}

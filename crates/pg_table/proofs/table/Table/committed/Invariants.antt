@@ -1,10 +1,9 @@
--- What was copied, with the rows to come, is all of them.
-use Rattle.std.proofs.Common.{◌≡◌, ◌++◌, [], drop}
-use Rattle.std.specs.Prelude.{filter_map}
-use Rattle.pg_heap.specs.Current.{live_values}
+-- What has committed of the rows so far.
+use Rattle.std.proofs.Common.{◌≡◌, []}
+use Rattle.pg_heap.specs.Current.{live_rows}
+use Rattle.pg_rows.specs.Stores.{rows_from}
 use Rattle.pg_table.proofs.table.Table.committed.Given as goal
 
-abbrev pub invariant-loop-row : goal.invariant-loop-row
-invariant-loop-row l =
-    l.rows ++ filter_map (live_values l.xacts []) (drop l.row-index l.row-items)
-    ≡ filter_map (live_values l.xacts []) l.row-items
+abbrev pub invariant-loop-before : goal.invariant-loop-before
+invariant-loop-before l =
+    l.rows ≡ live_rows l.fn.xacts [] (rows_from 1 l.before l.fn.self.store.versions)

@@ -1,0 +1,5 @@
+pub mod Ordered
+pub mod Pieces
+pub mod Bounds
+pub mod Commits
+pub mod Kept
