@@ -298,19 +298,3 @@ quiet_bounded script journal server legal is number = kept (item_at server.sessi
         ≤ 16 + tables_at (session_of (world_after script journal) number) * (1 + most)
     kept None none = omega arith
     kept (Some session) there = shown session there (session_of (world_after script journal) number) refl
-
--- and so says the board
-item_or_none : {X : Type 0} (f : X → ℕ) (found : Option X) → unwrap_or (option_map f found) 0 ≡ option_map_or f found 0
-item_or_none f None = refl
-item_or_none f (Some x) = refl
-
-pub board_bounded : (board : BoardView) (server : Server) → IsLegal board.script board.journal →
-    IsServerOf board.script server board.world → board.world ≡ world_after board.script board.journal →
-    board.quiet ≡ map (λ session. place_quiet server.tables session.place) server.sessions → (number : ℕ) →
-    quiet_left board number ≤ most_quiet board number
-board_bounded board server legal is after quiet number =
-    let h = quiet_bounded board.script board.journal server legal (subst (λ w. IsServerOf board.script server w) after is) number in
-    let same = ap (λ qs. unwrap_or (item_at qs number) 0) quiet
-    ∙ (ap (λ o. unwrap_or o 0) (slice_get-map (λ session. place_quiet server.tables session.place) server.sessions number)
-    ∙ item_or_none (λ session. place_quiet server.tables session.place) (item_at server.sessions number)) in
-    rw (same, after) h

@@ -83,12 +83,6 @@ tied_step script journal server new queues taken number act tied acted =
       taken = tied.taken;
     }
 
-pub tied_nearer : (script : Script) (journal : List Entry) (server new : Server) (queues : List Queue) (taken number : ℕ) →
-    IsTied script journal server queues taken → HasComeNearer script number (world_after script journal) server new →
-    IsTied script journal new queues taken
-tied_nearer script journal server new queues taken number tied nearer =
-    record { set_up = tied.set_up; legal = tied.legal; serves = nearer.serves; queues = tied.queues; taken = tied.taken }
-
 -- the server of a board stands for the world of its journal
 pub tied_serves : (script : Script) (journal : List Entry) (server : Server) (queues : List Queue) (taken : ℕ) →
     IsTied script journal server queues taken → IsServing script server
@@ -266,11 +260,6 @@ module _ (script : Script) (journal : List Entry) (server new : Server) (queues 
     others = λ other apart.
         rw (quiet_mapped new.tables new.sessions other, quiet_mapped server.tables server.sessions other) (nearer.others other apart);
   })
-
--- the committed rows of the tables
-pub tied_tables : (script : Script) (journal : List Entry) (server : Server) (queues : List Queue) (taken : ℕ) →
-    IsTied script journal server queues taken → tables_of (kept_world server) ≡ tables_of (world_after script journal)
-tied_tables script journal server queues taken tied = rw (tied.serves.tables, tied.serves.transactions) refl
 
 -- a board of which no step was made
 first_quiet : (names : List (List ℕ)) (tables : List TableState) →

@@ -7,3 +7,6 @@ pub mod Combining
 pub mod Knots
 pub mod Sentences
 pub mod Nesting
+pub mod Rules
+pub mod Fitting
+pub mod Reading

@@ -1,12 +1,9 @@
--- One reading of the parts of tables, of the statements that make one, and of the others: a list of tokens is at most
--- one statement.
+-- One reading of the parts of tables.
 use Rattle.std.proofs.Common.{◌≡◌, ◌∷◌, ◌++◌, ℕ, Bool, true, List, [], Option, Some, None, refl, ap}
 use Rattle.std.specs.Prelude.{not, is_some}
-use Rattle.pg_grammar.specs.Answers.{ends}
 use Rattle.pg_grammar.specs.Languages.{gives, one, bind, more}
-use Rattle.pg_grammar.specs.Limits.{Limit}
 use Rattle.pg_grammar.proofs.Agreeing.{Agree, agree_gives, agree_token, agree_one, agree_less}
-use Rattle.pg_grammar.proofs.Words.{Starts, starts_gives, starts_token, starts_one, starts_bind, starts_either}
+use Rattle.pg_grammar.proofs.Words.{Starts, starts_one, starts_bind}
 use Rattle.pg_lexer.specs.declared.keyword.Keyword.TheVariants as k
 use Rattle.pg_lexer.specs.declared.sign.Sign.TheVariants as s
 use Rattle.pg_lexer.specs.declared.token.Token.{Token}
@@ -17,21 +14,17 @@ use Rattle.pg_parse_expr.specs.Grammar.{expr}
 use Rattle.pg_parse_expr.specs.Operators.{name_of, value_of}
 use Rattle.pg_parse_stmt.specs.Behind.{any, is_word, behind_constraint_name, behind_part}
 use Rattle.pg_parse_stmt.specs.Forms.{word, sign, optional, list_of, in_brackets}
-use Rattle.pg_parse_stmt.specs.Grammar.{name, names, condition, elements, select, insert, update, delete, merge, default, column_constraint_behind, column_constraint_named, column_rule_behind, next_rule, column_part, table_constraint_behind, constraint_part, part, create_table, create_index, transaction, committed, isolation, begin, statement_behind, statement, sentence}
-use Rattle.pg_parse_stmt.specs.Words.{kind_of, negative_of, constraint_of, rule_of, lead_of}
+use Rattle.pg_parse_stmt.specs.Grammar.{name, names, default, column_constraint_behind, column_constraint_named, column_rule_behind, next_rule, column_part, table_constraint_behind, constraint_part, part}
+use Rattle.pg_parse_stmt.specs.Words.{kind_of, negative_of, constraint_of, rule_of}
 use Rattle.pg_parse_stmt.specs.declared.tree.ColumnRule.{ColumnRule}
 use Rattle.pg_parse_stmt.specs.declared.tree.ColumnRule.TheVariants as column_rule
-use Rattle.pg_parse_stmt.specs.declared.tree.StmtTree.{StmtTree}
-use Rattle.pg_parse_stmt.specs.declared.tree.StmtTree.TheVariants as stmt
 use Rattle.pg_parse_stmt.specs.declared.word.ConstraintWord.{ConstraintWord}
 use Rattle.pg_parse_stmt.specs.declared.word.ConstraintWord.TheVariants as constraint_word
-use Rattle.pg_parse_stmt.specs.declared.word.Lead.{Lead}
-use Rattle.pg_parse_stmt.specs.declared.word.Lead.TheVariants as lead
 use Rattle.pg_parse_stmt.specs.declared.word.RuleWord.{RuleWord}
 use Rattle.pg_parse_stmt.specs.declared.word.RuleWord.TheVariants as rule_word
-use Rattle.pg_parse_stmt.proofs.AgreeParts.{agree_name, agree_name_list, agree_bracket, starts_name, agree_condition, agree_elements}
-use Rattle.pg_parse_stmt.proofs.AgreeStatements.{agree_select, agree_insert, agree_update, agree_delete, agree_merge}
-use Rattle.pg_parse_stmt.proofs.Agreements.{outside, between, starts_first, starts_has, rank, behind, Single, single, loosened, single_list, tail_gives, agree_rule, starts_or_at, apart_flip, apart_words, apart_token, apart_outside, agree_then, agree_free, agree_made, agree_choice, agree_words, agree_or, agree_or_word, agree_optional_word, agree_brackets, agree_rest}
+use Rattle.pg_parse_stmt.proofs.AgreeParts.{agree_name, agree_name_list, agree_bracket, starts_name}
+use Rattle.pg_parse_stmt.proofs.Agreements.{outside, between, starts_first, starts_has, Single, single, single_list, apart_flip, apart_token, apart_outside, agree_then, agree_free, agree_made, agree_choice, agree_optional_word, agree_brackets, agree_rest}
+use Rattle.pg_parse_stmt.specs.Ranks.{rank, behind}
 use Rattle.pg_parse_stmt.proofs.Steps.{starts_optional}
 
 -- columns
@@ -151,87 +144,6 @@ agree_part =
     (apart_outside (has name_of) (behind 10) (bind name _) constraint_part (starts_name (behind 10) _)
     (starts_constraint_part (behind 10)))
 
--- CREATE
-agree_create_table : Single 18 create_table
-unfolding create_table rank
-agree_create_table =
-    agree_token (behind 18) (t.Keyword k.Table) _ _ (agree_free (behind 18) name _ agree_name
-    (λ n. agree_made (behind 18) (in_brackets (list_of part)) _
-    (agree_brackets (behind 11) (behind 18) (list_of part) refl (single_list part agree_part))))
-
-agree_create_index : Single 18 create_index
-unfolding create_index
-agree_create_index =
-    agree_token (behind 18) (t.Keyword k.Unique) _ _ (agree_token (behind 18) (t.Keyword k.Index) _ _
-    (agree_free (behind 18) name _ agree_name
-    (λ n. agree_token (behind 18) (t.Keyword k.On) _ _ (agree_free (behind 18) name _ agree_name
-    (λ x. agree_free (behind 18) elements _ agree_elements
-    (λ e. agree_rule 13 18 condition _ agree_condition (λ c. tail_gives 13 18 _ refl)))))))
-
--- BEGIN, COMMIT and ROLLBACK
-agree_transaction : (x : StmtTree) → Single 17 (transaction x)
-unfolding transaction rank
-agree_transaction x =
-    agree_or (behind 17) x _
-    (agree_words (behind 17) (t.Keyword k.Work) (t.Keyword k.Transaction) _ _ (λ e. cc e) (agree_gives (behind 17) x)
-    (agree_gives (behind 17) x))
-    (starts_either (outside (behind 17)) (behind 17) _ _ (starts_token (outside (behind 17)) (behind 17)
-    (t.Keyword k.Work) _ refl)
-    (starts_token (outside (behind 17)) (behind 17) (t.Keyword k.Transaction) _ refl))
-
-agree_isolation : (x : StmtTree) → Single 18 (isolation x)
-unfolding isolation committed rank
-agree_isolation x =
-    agree_or_word (behind 18) x (t.Keyword k.Isolation) _ refl
-    (agree_token (behind 18) (t.Keyword k.Level) _ _ (agree_token (behind 18) (t.Keyword k.Read) _ _
-    (agree_token (behind 18) (t.Keyword k.Committed) _ _ (agree_gives (behind 18) x))))
-
-starts_isolation : (x : StmtTree) → Starts (behind 17) (isolation x) (behind 18)
-unfolding isolation rank
-starts_isolation x = starts_or_at 17 18 x (t.Keyword k.Isolation) _ refl refl
-
-agree_begin : Single 18 begin
-unfolding begin
-agree_begin =
-    agree_then (behind 17) (behind 18) (transaction stmt.Begin) isolation
-    (agree_transaction stmt.Begin) agree_isolation starts_isolation
-
--- statements
-agree_statement_behind : (version : ℕ) (w : Lead) → Single 18 (statement_behind version w)
-unfolding statement_behind create_table create_index
-agree_statement_behind version lead.Begin = agree_begin
-agree_statement_behind version lead.Commit = loosened 17 18 _ refl (agree_transaction stmt.Commit)
-agree_statement_behind version lead.Rollback = loosened 17 18 _ refl (agree_transaction stmt.Rollback)
-agree_statement_behind version lead.Select = agree_made (behind 18) select _ agree_select
-agree_statement_behind version lead.Insert = agree_made (behind 18) insert _ agree_insert
-agree_statement_behind version lead.Update = agree_made (behind 18) update _ agree_update
-agree_statement_behind version lead.Delete = agree_made (behind 18) delete _ agree_delete
-agree_statement_behind version lead.Merge = agree_made (behind 18) merge _ agree_merge
-agree_statement_behind version lead.Create =
-    agree_choice (behind 18) create_table create_index agree_create_table agree_create_index
-    (apart_words (behind 18) (t.Keyword k.Table) (t.Keyword k.Unique) _ _ (λ e. cc e))
-
-agree_statement : (version : ℕ) → Single 18 (statement version)
-unfolding statement
-agree_statement version =
-    agree_free (behind 18) (one lead_of) (statement_behind version) (agree_one any lead_of)
-    (agree_statement_behind version)
-
-end_follows : (o : Option Token) → ends o ≡ true → behind 18 o ≡ true
+pub agree_parts : Agree (in_brackets (list_of part)) (in_brackets (list_of part)) any
 unfolding rank
-end_follows None e = refl
-end_follows (Some u) e = absurd (cc e)
-
-agree_sentence : (version : ℕ) → Agree (sentence version) (sentence version) ends
-unfolding sentence rank
-agree_sentence version =
-    agree_then (behind 18) ends (statement version) _ (agree_statement version)
-    (λ x. agree_or_word ends x (t.Sign s.Semicolon) (gives x) refl (agree_gives ends x))
-    (λ x. starts_either (behind 18) ends _ _ (starts_token (behind 18) ends (t.Sign s.Semicolon) _ refl)
-    (starts_gives (behind 18) ends x end_follows))
-
--- where no token stands behind
-pub at_most_one_statement : (version : ℕ) (m n : Limit → ℕ) (tokens : List Token) (a b : StmtTree) →
-    sentence version m tokens a [] →
-    sentence version n tokens b [] → a ≡ b
-at_most_one_statement version m n tokens a b l r = ((agree_sentence version).same m n tokens a b [] [] l r refl refl).0
+agree_parts = agree_brackets (behind 11) any (list_of part) refl (single_list part agree_part)

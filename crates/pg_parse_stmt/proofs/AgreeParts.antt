@@ -1,10 +1,10 @@
 -- One reading of the parts of statements: names, conditions, items, rows, and the sources behind FROM.
-use Rattle.std.proofs.Common.{◌≡◌, ◌∷◌, ◌++◌, ◌+◌, ℕ, suc, Bool, true, List, [], Option, Some, None, refl, sym, ◌∙◌, subst, inl, inr}
+use Rattle.std.proofs.Common.{◌≡◌, ◌∷◌, ◌++◌, ◌+◌, ℕ, suc, Bool, true, false, List, [], Option, Some, None, refl, sym, ◌∙◌, subst, inl, inr}
 use Rattle.std.specs.Prelude.{◌⊎◌}
 use Rattle.std.proofs.Math.Dec.{leb}
 use Rattle.std.proofs.lemmas.Bool.{and_from}
 use Rattle.pg_grammar.specs.Answers.{next, Reads, IsRead, read}
-use Rattle.pg_grammar.specs.Languages.{Lang, one, bind}
+use Rattle.pg_grammar.specs.Languages.{Lang, token, one, bind}
 use Rattle.pg_grammar.specs.Limits.{Limit, sources}
 use Rattle.pg_grammar.proofs.Agreeing.{Agree, agree_less, agree_token, agree_one, agree_reaches}
 use Rattle.pg_grammar.proofs.Combining.{reads_one}
@@ -20,7 +20,7 @@ use Rattle.pg_parse_expr.specs.Operators.{name_of, or_op, and_op, compare_op, co
 use Rattle.pg_parse_expr.specs.Tree.{Tree}
 use Rattle.pg_parse_stmt.specs.Behind.{any, is_word, is_open, behind_as, behind_columns, behind_item}
 use Rattle.pg_parse_stmt.specs.Expected.{BeginsAllOf}
-use Rattle.pg_parse_stmt.specs.Forms.{word, optional, list_of, in_brackets}
+use Rattle.pg_parse_stmt.specs.Forms.{word, or_else, optional, list_of, in_brackets}
 use Rattle.pg_parse_stmt.specs.Grammar.{name, names, alias, table_named, table_ref, condition, as_name, named_expr, all_of, item, items, returning, tuple, tuples, assignment, sets, element, elements, columns, joined, alone, linked, SourceRule, sources_in, next_source, from_of, table_source, one_source, subselect, values_source, query_source, bracketed, source, sources_of, from}
 use Rattle.pg_parse_stmt.specs.Words.{bare_name_of, link_of}
 use Rattle.pg_parse_stmt.specs.declared.tree.Item.{Item}
@@ -29,7 +29,8 @@ use Rattle.pg_parse_stmt.specs.declared.tree.Joined.{Joined}
 use Rattle.pg_parse_stmt.specs.declared.word.Link.{Link}
 use Rattle.pg_parse_stmt.specs.declared.word.Link.TheVariants as link
 use Rattle.pg_parse_expr.proofs.Unambiguous.{expr_agrees}
-use Rattle.pg_parse_stmt.proofs.Agreements.{outside, between, starts_first, starts_has, rank, behind, deeper, Single, single, loosened, single_list, Tail, tail_gives, tail_token, tail_or, tail_optional, agree_rule, apart_flip, apart_token, apart_outside, agree_free, agree_made, agree_choice, agree_words, agree_or, agree_optional, agree_optional_word, agree_brackets, agree_repeat}
+use Rattle.pg_parse_stmt.proofs.Agreements.{outside, between, starts_first, starts_has, deeper, Single, single, loosened, single_list, Tail, tail_gives, tail_token, tail_optional, agree_rule, apart_flip, apart_token, apart_outside, agree_free, agree_made, agree_choice, agree_words, agree_or, agree_or_word, agree_optional, agree_optional_word, agree_brackets, agree_repeat}
+use Rattle.pg_parse_stmt.specs.Ranks.{rank, behind}
 use Rattle.pg_parse_stmt.proofs.Items.{item_all, item_all_of}
 
 -- names
@@ -76,7 +77,7 @@ unfolding table_ref
 agree_table_ref = agree_free (behind 10) name table_named agree_name agree_table_named
 
 -- expressions, alone and behind a word
-expr_follows : (o : Option Token) → behind 8 o ≡ true → behind_expr o ≡ true
+pub expr_follows : (o : Option Token) → behind 8 o ≡ true → behind_expr o ≡ true
 unfolding rank has behind_factor behind_product behind_sum behind_concatenation behind_comparison behind_predicate
     behind_conjunction behind_expr or_op and_op compare_op concat_op sum_op product_op
 expr_follows None b = refl
@@ -110,7 +111,7 @@ as_follows (Some (t.Keyword k.As)) b = absurd (cc b)
 as_follows (Some (t.Keyword _)) b = refl
 as_follows (Some _) b = refl
 
-item_follows : (o : Option Token) → behind 10 o ≡ true → behind_item o ≡ true
+pub item_follows : (o : Option Token) → behind 10 o ≡ true → behind_item o ≡ true
 unfolding behind_item
 item_follows o b = and_from (behind_expr o) (behind_as o) (expr_follows o (deeper 8 10 refl o b)) (as_follows o b)
 
@@ -189,13 +190,10 @@ pub agree_items : Single 11 items
 unfolding items
 agree_items = single_list item agree_item
 
--- [RETURNING items] and what is behind
-pub tail_returning : {V : Type 0} (i level : ℕ) (K : List Item → Lang Token V) → leb (suc i) 16 ≡ true →
-    leb i 16 ≡ true →
-    ((r : List Item) → Tail 16 (K r) level) → Tail i (bind returning K) level
+pub agree_returning : Single 16 returning
 unfolding returning rank
-tail_returning i level K h l c =
-    tail_or i 16 level [] (t.Keyword k.Returning) items K h refl l (loosened 11 16 items refl agree_items) c
+agree_returning =
+    agree_or_word (behind 16) [] (t.Keyword k.Returning) items refl (loosened 11 16 items refl agree_items)
 
 pub agree_tuple : Agree tuple tuple any
 unfolding tuple rank
@@ -337,3 +335,6 @@ agree_source n =
 pub agree_from : Single 11 from
 unfolding from
 agree_from = agree_from_of source sources_of agree_source 0
+
+pub agree_from_word : (u : Token) → behind 12 (Some u) ≡ false → Single 12 (or_else [] (token u from))
+agree_from_word u h = agree_or_word (behind 12) [] u from h (loosened 11 12 from refl agree_from)

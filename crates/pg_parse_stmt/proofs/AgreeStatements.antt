@@ -1,6 +1,6 @@
 -- One reading of the statements that read and write rows.
 use Rattle.std.proofs.Common.{◌≡◌, ◌∷◌, ◌++◌, Bool, true, false, List, [], Option, Some, None, refl}
-use Rattle.pg_grammar.specs.Languages.{Lang, gives, one, bind, either}
+use Rattle.pg_grammar.specs.Languages.{Lang, gives, one, either}
 use Rattle.pg_grammar.proofs.Agreeing.{Agree, agree_gives, agree_token, agree_one, agree_less}
 use Rattle.pg_grammar.proofs.Words.{Starts, starts_gives, starts_token, starts_one, starts_bind, starts_either}
 use Rattle.pg_lexer.specs.declared.keyword.Keyword.TheVariants as k
@@ -12,10 +12,9 @@ use Rattle.pg_parse_expr.specs.Grammar.{expr}
 use Rattle.pg_parse_expr.specs.Tree.{Tree}
 use Rattle.pg_parse_stmt.specs.Behind.{any, is_word, is_open, behind_as, behind_columns}
 use Rattle.pg_parse_stmt.specs.Forms.{word, optional, list_of, in_brackets}
-use Rattle.pg_parse_stmt.specs.Grammar.{name, as_name, table_ref, condition, items, tuple, tuples, sets, element, elements, columns, subselect, source, from, direction, nulls_by, nulls, order_key, order, limit, strength_behind, strength, lock_wait, of_table, locked, locking, select, rows, target_elements, target_constraint, conflict_target, upsert, conflict_act, conflict, insert, update, delete, change_behind, change, addition_insert, addition_nothing, addition, then, by_whom, not_matched, when_behind, when, next_when, whens, merge}
+use Rattle.pg_parse_stmt.specs.Grammar.{name, as_name, condition, tuple, tuples, sets, element, elements, columns, subselect, direction, nulls_by, nulls, order_key, order, limit, strength_behind, strength, lock_wait, of_table, locked, locking, rows, target_elements, target_constraint, conflict_target, upsert, conflict_act, conflict, change_behind, change, addition_insert, addition_nothing, addition, then, by_whom, not_matched, when_behind, when, next_when, whens}
 use Rattle.pg_parse_stmt.specs.Words.{integer_of, direction_of, nulls_of, strength_of, change_of}
 use Rattle.pg_parse_stmt.specs.declared.tree.Addition.TheVariants as addition_of
-use Rattle.pg_parse_stmt.specs.declared.tree.Conflict.{Conflict}
 use Rattle.pg_parse_stmt.specs.declared.tree.ConflictTarget.{ConflictTarget}
 use Rattle.pg_parse_stmt.specs.declared.tree.Direction.{Direction}
 use Rattle.pg_parse_stmt.specs.declared.tree.Direction.TheVariants.{Ascending}
@@ -26,10 +25,10 @@ use Rattle.pg_parse_stmt.specs.declared.tree.When.{When}
 use Rattle.pg_parse_stmt.specs.declared.tree.When.TheVariants as when_of
 use Rattle.pg_parse_stmt.specs.declared.word.ChangeWord.{ChangeWord}
 use Rattle.pg_parse_stmt.specs.declared.word.ChangeWord.TheVariants as change_word
-use Rattle.pg_parse_stmt.proofs.AgreeParts.{agree_name, agree_table_ref, single_expr, agree_condition, tail_condition, agree_items, tail_returning, agree_tuple, agree_tuples, agree_sets, agree_elements, agree_columns, agree_subselect, agree_source, agree_from}
-use Rattle.pg_parse_stmt.proofs.Agreements.{outside, between, starts_first, rank, behind, deeper, Single, single, loosened, single_list, Tail, tail_gives, tail_token, tail_bind, tail_or, tail_optional, agree_rule, starts_optional_at, apart_flip, apart_words, apart_token, agree_then, agree_free, agree_made, agree_choice, agree_words, agree_or, agree_optional, agree_optional_word, agree_repeat, starts_repeat}
+use Rattle.pg_parse_stmt.proofs.AgreeParts.{agree_name, single_expr, agree_condition, tail_condition, agree_tuple, agree_tuples, agree_sets, agree_elements, agree_columns, agree_subselect}
+use Rattle.pg_parse_stmt.proofs.Agreements.{outside, between, starts_first, deeper, Single, single, loosened, single_list, tail_gives, tail_token, tail_bind, tail_or, agree_rule, apart_flip, apart_words, apart_token, agree_then, agree_free, agree_made, agree_choice, agree_words, agree_or, agree_or_word, agree_optional, agree_optional_word, agree_repeat, starts_repeat}
+use Rattle.pg_parse_stmt.specs.Ranks.{rank, behind}
 use Rattle.pg_parse_stmt.proofs.Steps.{starts_or, starts_optional}
-use Rattle.pg_parse_stmt.proofs.Inserts.{starts_rows}
 
 -- the order of rows
 direction_outside : (u : Token) (d : Direction) → direction_of u ≡ Some d → outside (behind 9) (Some u) ≡ true
@@ -57,7 +56,7 @@ starts_direction =
     (starts_one (behind 8) (behind 9) direction_of direction_behind)
     (starts_gives (behind 8) (behind 9) Ascending (deeper 8 9 refl))
 
-agree_order_key : Single 10 order_key
+pub agree_order_key : Single 10 order_key
 unfolding order_key nulls rank
 agree_order_key =
     agree_rule 8 10 expr _ single_expr
@@ -104,29 +103,36 @@ agree_of_table : Single 17 of_table
 unfolding of_table rank
 agree_of_table = agree_optional_word (behind 17) (t.Keyword k.Of) name refl (single 17 name agree_name)
 
-agree_locked : Single 18 locked
+pub agree_locked : Single 18 locked
 unfolding locked
 agree_locked =
     agree_free (behind 18) strength _ agree_strength
     (λ x. agree_rule 17 18 of_table _ agree_of_table
     (λ u. tail_bind 17 18 18 lock_wait _ agree_lock_wait starts_lock_wait (λ w. tail_gives 18 18 _ refl)))
 
--- SELECT
-pub agree_select : Single 18 select
-unfolding select order limit locking rank
-agree_select =
-    agree_rule 11 18 items _ agree_items
-    (λ i. tail_token 11 18 (t.Keyword k.From) _ refl (agree_rule 11 18 from _ agree_from
-    (λ f. tail_condition 11 18 _ refl refl
-    (λ c. tail_or 13 14 18 [] (t.Keyword k.Order) _ _ refl refl refl
+-- [ORDER BY ..], [LIMIT integer] and [FOR ..]
+pub agree_order : Single 14 order
+unfolding order rank
+agree_order =
+    agree_or_word (behind 14) [] (t.Keyword k.Order) _ refl
     (agree_token (behind 14) (t.Keyword k.By) _ _ (loosened 11 14 _ refl (single_list order_key agree_order_key)))
-    (λ o. tail_optional 14 15 18 (t.Keyword k.Limit) (one integer_of) _ refl refl refl
-    (agree_one (behind 15) integer_of)
-    (λ l. tail_optional 15 18 18 (t.Keyword k.For) locked _ refl refl refl agree_locked
-    (λ h. tail_gives 18 18 _ refl)))))))
+
+pub agree_limit : Single 15 limit
+unfolding limit rank
+agree_limit = agree_optional_word (behind 15) (t.Keyword k.Limit) (one integer_of) refl (agree_one (behind 15) integer_of)
+
+pub agree_locking : Single 18 locking
+unfolding locking rank
+agree_locking = agree_optional_word (behind 18) (t.Keyword k.For) locked refl agree_locked
 
 -- INSERT
-agree_rows : Single 13 rows
+pub starts_rows : (b : Option Token → Bool) → b (Some (t.Keyword k.Values)) ≡ true →
+    b (Some (t.Keyword k.Select)) ≡ true → (g : Option Token → Bool) → Starts b rows g
+unfolding rows
+starts_rows b h i g =
+    starts_either b g _ _ (starts_token b g (t.Keyword k.Values) _ h) (starts_token b g (t.Keyword k.Select) _ i)
+
+pub agree_rows : Single 13 rows
 unfolding rows
 agree_rows =
     agree_words (behind 13) (t.Keyword k.Values) (t.Keyword k.Select) _ _ (λ e. cc e)
@@ -179,7 +185,7 @@ agree_conflict_act (Some x) =
     (agree_gives (behind 15) _)) (agree_upsert x)
     (apart_words (behind 15) (t.Keyword k.Nothing) (t.Keyword k.Update) _ _ (λ e. cc e))
 
-agree_conflict : Single 15 conflict
+pub agree_conflict : Single 15 conflict
 unfolding conflict rank
 agree_conflict =
     agree_token (behind 15) (t.Keyword k.On) _ _ (agree_token (behind 15) (t.Keyword k.Conflict) _ _
@@ -187,54 +193,21 @@ agree_conflict =
     (behind 15) conflict_target agree_conflict_target starts_conflict_target)
     (λ x. tail_token 15 15 (t.Keyword k.Do) _ refl (agree_conflict_act x))))
 
--- [ON CONFLICT ..] and what is behind
-tail_conflict : {V : Type 0} (K : Option Conflict → Lang Token V) → ((c : Option Conflict) → Tail 15 (K c) 18) →
-    Tail 13 (bind (optional conflict) K) 18
+pub agree_optional_conflict : Single 15 (optional conflict)
 unfolding conflict rank
-tail_conflict K c =
-    tail_bind 13 15 18 (optional conflict) K
-    (agree_optional (behind 15) conflict agree_conflict (starts_token (outside (behind 15)) (behind 15)
-    (t.Keyword k.On) _ refl))
-    (starts_optional_at 13 15 (t.Keyword k.On) _ refl refl) c
+agree_optional_conflict =
+    agree_optional (behind 15) conflict agree_conflict (starts_token (outside (behind 15)) (behind 15) (t.Keyword k.On) _ refl)
 
 -- [AS name] and ["(" names ")"] stand before VALUES and SELECT
-agree_as : Agree as_name as_name behind_as
+pub agree_as : Agree as_name as_name behind_as
 unfolding as_name behind_as is_word spelling
 agree_as =
     agree_optional_word behind_as (t.Keyword k.As) name refl (agree_less any behind_as name name
     (λ o e. refl) agree_name)
 
-starts_columns : Starts behind_as columns behind_as
+pub starts_columns : Starts behind_as columns behind_as
 unfolding columns in_brackets behind_as is_word
 starts_columns = starts_or [] (t.Sign s.Open) _ behind_as refl
-
-pub agree_insert : Single 18 insert
-unfolding insert behind_columns is_open behind_as is_word spelling
-agree_insert =
-    agree_token (behind 18) (t.Keyword k.Into) _ _ (agree_free (behind 18) name _ agree_name
-    (λ n. agree_then behind_as (behind 18) as_name _ agree_as
-    (λ a. agree_then behind_columns (behind 18) columns _ agree_columns
-    (λ c. agree_rule 13 18 rows _ agree_rows (λ r. tail_conflict _
-    (λ o. tail_returning 15 18 _ refl refl (λ i. tail_gives 16 18 _ refl))))
-    (λ c. starts_first behind_columns (behind 18) rows _ (starts_rows behind_columns refl refl any)))
-    (λ a. starts_bind behind_as behind_as (behind 18) columns _ starts_columns
-    (λ c. starts_first behind_as (behind 18) rows _ (starts_rows behind_as refl refl any)))))
-
--- UPDATE and DELETE
-pub agree_update : Single 18 update
-unfolding update rank
-agree_update =
-    agree_rule 10 18 table_ref _ agree_table_ref
-    (λ x. tail_token 10 18 (t.Keyword k.Set) _ refl (agree_rule 11 18 sets _ agree_sets
-    (λ a. tail_or 11 12 18 [] (t.Keyword k.From) from _ refl refl refl (loosened 11 12 from refl agree_from)
-    (λ f. tail_condition 12 18 _ refl refl (λ c. tail_returning 13 18 _ refl refl (λ i. tail_gives 16 18 _ refl))))))
-
-pub agree_delete : Single 18 delete
-unfolding delete rank
-agree_delete =
-    agree_token (behind 18) (t.Keyword k.From) _ _ (agree_rule 10 18 table_ref _ agree_table_ref
-    (λ x. tail_or 10 12 18 [] (t.Keyword k.Using) from _ refl refl refl (loosened 11 12 from refl agree_from)
-    (λ u. tail_condition 12 18 _ refl refl (λ c. tail_returning 13 18 _ refl refl (λ i. tail_gives 16 18 _ refl)))))
 
 -- MERGE
 agree_change_behind : (w : ChangeWord) → Single 11 (change_behind w)
@@ -293,7 +266,7 @@ agree_not_matched =
     (apart_token no_by (behind 11) (t.Keyword k.By) _ _ refl (starts_then_act addition when_of.NotByTarget no_by
     (behind 11) refl refl))
 
-agree_when : Single 11 when
+pub agree_when : Single 11 when
 unfolding when when_behind
 agree_when =
     agree_token (behind 11) (t.Keyword k.When) _ _
@@ -301,13 +274,13 @@ agree_when =
     (agree_then_act change when_of.Matched agree_change)
     (agree_token (behind 11) (t.Keyword k.Matched) _ _ agree_not_matched))
 
-begins_when : (list : List When) → Starts (between (behind 11) (behind 14)) (next_when list) (behind 11)
+pub begins_when : (list : List When) → Starts (between (behind 11) (behind 14)) (next_when list) (behind 11)
 unfolding next_when when rank
 begins_when list =
     starts_first (between (behind 11) (behind 14)) (behind 11) _ _
     (starts_token (between (behind 11) (behind 14)) any (t.Keyword k.When) _ refl)
 
-agree_whens : Single 14 whens
+pub agree_whens : Single 14 whens
 unfolding whens next_when
 agree_whens =
     agree_repeat (behind 11) (behind 14) when next_when (λ w. w ∷ []) (deeper 11 14 refl) begins_when
@@ -318,12 +291,3 @@ unfolding whens when rank
 starts_whens =
     starts_repeat (behind 11) (behind 14) when next_when (λ w. w ∷ []) (deeper 11 14 refl) begins_when (behind 8)
     (starts_token (behind 8) (behind 11) (t.Keyword k.When) _ refl)
-
-pub agree_merge : Single 18 merge
-unfolding merge rank
-agree_merge =
-    agree_token (behind 18) (t.Keyword k.Into) _ _ (agree_rule 10 18 table_ref _ agree_table_ref
-    (λ x. tail_token 10 18 (t.Keyword k.Using) _ refl (agree_rule 10 18 (source 0) _ (agree_source 0)
-    (λ y. tail_token 10 18 (t.Keyword k.On) _ refl (agree_rule 8 18 expr _ single_expr
-    (λ e. tail_bind 8 14 18 whens _ agree_whens starts_whens (λ w. tail_returning 14 18 _ refl refl
-    (λ i. tail_gives 16 18 _ refl))))))))

@@ -1,4 +1,4 @@
--- One reading of the forms that many rules have, and how loosely a token binds what stands before it.
+-- One reading of the forms that many rules have.
 use Rattle.std.proofs.Common.{◌≡◌, ◌∷◌, ◌++◌, ℕ, suc, Bool, true, false, [], Option, Some, None, refl, ap, ◌∙◌, arith}
 use Rattle.std.specs.Prelude.{not, ◌&&◌, is_some}
 use Rattle.std.proofs.Math.Dec.{leb}
@@ -7,12 +7,12 @@ use Rattle.pg_grammar.specs.Answers.{next}
 use Rattle.pg_grammar.specs.Languages.{Lang, gives, token, one, bind, either, more}
 use Rattle.pg_grammar.proofs.Agreeing.{Agree, Apart, apart_starts, agree_less, agree_gives, agree_token, agree_bind, agree_either, agree_more}
 use Rattle.pg_grammar.proofs.Words.{Starts, starts_gives, starts_token, starts_one, starts_bind, starts_either, starts_more}
-use Rattle.pg_lexer.specs.declared.keyword.Keyword.TheVariants as k
 use Rattle.pg_lexer.specs.declared.sign.Sign.TheVariants as s
 use Rattle.pg_lexer.specs.declared.token.Token.{Token}
 use Rattle.pg_lexer.specs.declared.token.Token.TheVariants as t
 use Rattle.pg_parse_expr.specs.Behind.{has}
 use Rattle.pg_parse_stmt.specs.Behind.{any}
+use Rattle.pg_parse_stmt.specs.Ranks.{rank, behind}
 use Rattle.pg_parse_stmt.specs.Forms.{sign, or_else, optional, next_of, list_of, in_brackets}
 use Rattle.pg_parse_stmt.proofs.Lists.{starts_any, and_left}
 
@@ -153,63 +153,6 @@ module _ {X V : Type 0} (before behind : Option Token → Bool) (L : Lang Token 
   agree_repeat each a =
       agree_then before behind L (λ x. more step (first x)) a (λ x. agree_rest each (first x))
       (λ x. starts_rest (first x))
-
--- how loosely a token binds what stands before it: 0 for what goes on with a name, 1 to 8 for the levels of operators,
--- then what goes on with a part of a statement, and 19 for all else. The first word of what may be left out is of a
--- lower rank than all that may stand behind it
-unfoldable pub rank : Option Token → ℕ
-rank (Some (t.Sign s.Dot)) = 0
-rank (Some (t.Sign s.Open)) = 0
-rank (Some (t.Sign s.Star)) = 1
-rank (Some (t.Sign s.Slash)) = 1
-rank (Some (t.Sign s.Percent)) = 1
-rank (Some (t.Sign s.Plus)) = 2
-rank (Some (t.Sign s.Minus)) = 2
-rank (Some (t.Sign s.Concat)) = 3
-rank (Some (t.Sign s.Equal)) = 4
-rank (Some (t.Sign s.NotEqual)) = 4
-rank (Some (t.Sign s.Less)) = 4
-rank (Some (t.Sign s.LessOrEqual)) = 4
-rank (Some (t.Sign s.Greater)) = 4
-rank (Some (t.Sign s.GreaterOrEqual)) = 4
-rank (Some (t.Keyword k.Is)) = 5
-rank (Some (t.Keyword k.And)) = 7
-rank (Some (t.Keyword k.Or)) = 8
-rank (Some (t.Keyword k.Asc)) = 9
-rank (Some (t.Keyword k.Desc)) = 9
-rank (Some (t.Keyword k.Not)) = 9
-rank (Some (t.Keyword k.Default)) = 9
-rank (Some (t.Keyword k.Constraint)) = 9
-rank (Some (t.Keyword k.Primary)) = 9
-rank (Some (t.Keyword k.Unique)) = 9
-rank (Some (t.Keyword k.Check)) = 9
-rank (Some (t.Name name)) = 10
-rank (Some (t.Keyword k.As)) = 10
-rank (Some (t.Keyword k.Nulls)) = 10
-rank (Some (t.Sign s.Comma)) = 11
-rank (Some (t.Keyword k.Inner)) = 11
-rank (Some (t.Keyword k.Join)) = 11
-rank (Some (t.Keyword k.From)) = 12
-rank (Some (t.Keyword k.Set)) = 12
-rank (Some (t.Keyword k.Using)) = 12
-rank (Some (t.Keyword k.Where)) = 13
-rank (Some (t.Keyword k.Order)) = 14
-rank (Some (t.Keyword k.When)) = 14
-rank (Some (t.Keyword k.Limit)) = 15
-rank (Some (t.Keyword k.On)) = 15
-rank (Some (t.Keyword k.For)) = 16
-rank (Some (t.Keyword k.Returning)) = 16
-rank (Some (t.Keyword k.Of)) = 17
-rank (Some (t.Keyword k.Work)) = 17
-rank (Some (t.Keyword k.Transaction)) = 17
-rank (Some (t.Keyword k.Nowait)) = 18
-rank (Some (t.Keyword k.Skip)) = 18
-rank (Some (t.Keyword k.Isolation)) = 18
-rank _ = 19
-
--- what may stand behind a part of a level
-abbrev pub behind : ℕ → Option Token → Bool
-behind level o = leb (suc level) (rank o)
 
 pub deeper : (i j : ℕ) → leb i j ≡ true → (o : Option Token) → behind j o ≡ true → behind i o ≡ true
 deeper i j h o b =

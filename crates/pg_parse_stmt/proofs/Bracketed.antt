@@ -2,9 +2,9 @@
 use Rattle.std.proofs.Common.{◌≡◌, ◌∷◌, ◌+◌, ℕ, suc, true, false, List, [], length, Some, refl, sym, ap}
 use Rattle.pg_grammar.specs.declared.fault.Fault.{Fault}
 use Rattle.pg_grammar.specs.declared.fault.Fault.TheVariants.{Syntax}
-use Rattle.pg_grammar.specs.Languages.{Lang, gives, token, one, bind, either}
+use Rattle.pg_grammar.specs.Languages.{Lang, gives, one, bind, either}
 use Rattle.pg_grammar.specs.Answers.{next, Misses, Seen, read, failed, Reads}
-use Rattle.pg_grammar.proofs.Words.{Starts, Bars, Spelled, starts_gives, starts_token, spelled_gives, spelled_token, spelled_bind, bars_token, bars_one, bars_bind}
+use Rattle.pg_grammar.proofs.Words.{Starts, Bars, Spelled, starts_gives, spelled_gives, spelled_token, spelled_bind, bars_token, bars_one, bars_bind}
 use Rattle.pg_grammar.proofs.Combining.{reads_gives, reads_refused, reads_bind_failed, leads_left, leads_right}
 use Rattle.pg_lexer.specs.declared.keyword.Keyword.TheVariants as k
 use Rattle.pg_lexer.specs.declared.sign.Sign.TheVariants as s
@@ -12,13 +12,10 @@ use Rattle.pg_lexer.specs.declared.token.Token.{Token}
 use Rattle.pg_lexer.specs.declared.token.Token.TheVariants as t
 use Rattle.pg_parse_expr.specs.Behind.{has}
 use Rattle.pg_parse_expr.specs.Operators.{name_of}
-use Rattle.pg_parse_expr.specs.Tree.{Tree}
-use Rattle.pg_parse_stmt.specs.Behind.{any, behind_table, behind_tuples, behind_subselect}
-use Rattle.pg_parse_stmt.specs.Forms.{word, sign, in_brackets}
-use Rattle.pg_parse_stmt.specs.Spellings.{spelled_name}
-use Rattle.pg_parse_stmt.specs.Words.{bare_name_of}
+use Rattle.pg_parse_stmt.specs.Behind.{any, behind_table}
+use Rattle.pg_parse_stmt.specs.Forms.{word, sign}
 use Rattle.pg_parse_stmt.proofs.Lists.{starts_any}
-use Rattle.pg_parse_stmt.proofs.Steps.{word_read, word_missed, part_read}
+use Rattle.pg_parse_stmt.proofs.Steps.{word_read, part_read}
 use Rattle.std.proofs.lemmas.Bool.{false≢true}
 use Rattle.std.proofs.Common.{◌≤◌, arith, subst}
 use Rattle.pg_grammar.specs.declared.fault.Fault.TheVariants.{Many}
@@ -26,248 +23,13 @@ use Rattle.pg_grammar.specs.Limits.{sources}
 use Rattle.pg_grammar.proofs.Words.{begun_bind, begun_one, begun_token, begun_left, begun_right, bars_reaches, bars_either, spelled_left, spelled_reaches}
 use Rattle.pg_grammar.proofs.Leading.{reads_narrow}
 use Rattle.pg_grammar.proofs.Combining.{reads_over, leads_reaches}
-use Rattle.pg_parse_stmt.specs.Grammar.{name, names, alias, tuples, table_named, table_ref, subselect, values_source, query_source, bracketed, source}
-use Rattle.pg_parse_stmt.specs.Spellings.{spelled_tuples, spelled_in_brackets, spelled_names}
+use Rattle.pg_parse_stmt.specs.Grammar.{name, table_named, table_ref, values_source, query_source, bracketed, source}
 use Rattle.pg_parse_stmt.specs.declared.tree.TableRef.{TableRef}
 use Rattle.pg_parse_stmt.specs.declared.tree.Source.{Source}
 use Rattle.pg_parse_stmt.specs.declared.tree.Source.TheVariants as source_of
-use Rattle.pg_parse_stmt.specs.declared.tree.Subselect.{Subselect}
 use Rattle.pg_parse_stmt.proofs.Tables.{spelled_named, spelled_table_ref, some_name, no_name_first}
 use Rattle.pg_parse_stmt.proofs.Elements.{open_is_no_name}
-use Rattle.pg_parse_stmt.proofs.Following.{close_behind_subselect, close_behind_tuples}
-
-spelled_alias : Spelled alias
-unfolding alias
-spelled_alias = spelled_left (word k.As name) (one bare_name_of) (spelled_token (t.Keyword k.As) name spelled_name)
-
--- tuples ")" [AS] name "(" names ")", behind "(" VALUES
-values_source_made : (rows : List (List Tree)) → (named : List ℕ) → (columns : List (List ℕ)) → Source
-values_source_made rows named columns = source_of.Values (record { rows = rows; alias = named; columns = columns })
-
-values_source_after_columns : (rows : List (List Tree)) → (named : List ℕ) → (columns : List (List ℕ)) →
-    Lang Token Source
-values_source_after_columns rows named columns = gives (values_source_made rows named columns)
-
-spelled_values_source_after_columns : (rows : List (List Tree)) → (named : List ℕ) → (columns : List (List ℕ)) →
-    Spelled (values_source_after_columns rows named columns)
-unfolding values_source_after_columns
-spelled_values_source_after_columns rows named columns = spelled_gives (values_source_made rows named columns)
-
-values_source_after_alias : (rows : List (List Tree)) → (named : List ℕ) → Lang Token Source
-values_source_after_alias rows named = bind (in_brackets names) (values_source_after_columns rows named)
-
-spelled_values_source_after_alias : (rows : List (List Tree)) → (named : List ℕ) →
-    Spelled (values_source_after_alias rows named)
-unfolding values_source_after_alias
-spelled_values_source_after_alias rows named =
-    spelled_bind (in_brackets names) (values_source_after_columns rows named) (spelled_in_brackets names spelled_names)
-    (λ columns. spelled_values_source_after_columns rows named columns)
-
-values_source_after_close : (rows : List (List Tree)) → Lang Token Source
-values_source_after_close rows = bind alias (values_source_after_alias rows)
-
-spelled_values_source_after_close : (rows : List (List Tree)) → Spelled (values_source_after_close rows)
-unfolding values_source_after_close
-spelled_values_source_after_close rows =
-    spelled_bind alias (values_source_after_alias rows) spelled_alias
-    (λ named. spelled_values_source_after_alias rows named)
-
-values_source_after_rows : (rows : List (List Tree)) → Lang Token Source
-values_source_after_rows rows = token (t.Sign s.Close) (values_source_after_close rows)
-
-spelled_values_source_after_rows : (rows : List (List Tree)) → Spelled (values_source_after_rows rows)
-unfolding values_source_after_rows
-spelled_values_source_after_rows rows =
-    spelled_token (t.Sign s.Close) (values_source_after_close rows) (spelled_values_source_after_close rows)
-
-pub spelled_values_source : Spelled values_source
-unfolding values_source values_source_after_rows values_source_after_close values_source_after_alias
-    values_source_after_columns values_source_made
-spelled_values_source =
-    spelled_bind tuples values_source_after_rows spelled_tuples (λ rows. spelled_values_source_after_rows rows)
-
-starts_values_source_after_rows : (rows : List (List Tree)) → Starts behind_tuples (values_source_after_rows rows) any
-unfolding values_source_after_rows values_source_after_close values_source_after_alias values_source_after_columns
-    values_source_made
-starts_values_source_after_rows rows =
-    starts_token behind_tuples any (t.Sign s.Close) (values_source_after_close rows) close_behind_tuples
-
-starts_values_source_after_alias : (rows : List (List Tree)) → (named : List ℕ) →
-    Starts any (values_source_after_alias rows named) any
-unfolding values_source_after_rows values_source_after_close values_source_after_alias values_source_after_columns
-    values_source_made
-starts_values_source_after_alias rows named = starts_any (values_source_after_alias rows named) any
-
-starts_values_source_after_columns : (rows : List (List Tree)) → (named : List ℕ) → (columns : List (List ℕ)) →
-    Starts any (values_source_after_columns rows named columns) any
-unfolding values_source_after_rows values_source_after_close values_source_after_alias values_source_after_columns
-    values_source_made
-starts_values_source_after_columns rows named columns = starts_any (values_source_after_columns rows named columns) any
-
-pub values_source_rows_failed : (xs : List Token) (f : Fault) → Reads tuples behind_tuples xs (failed f) →
-    Reads values_source any xs (failed f)
-unfolding values_source values_source_after_rows values_source_after_close values_source_after_alias
-    values_source_after_columns values_source_made
-values_source_rows_failed xs f fails =
-    reads_bind_failed tuples values_source_after_rows behind_tuples any xs f fails
-    (λ rows. starts_values_source_after_rows rows) (λ rows. spelled_values_source_after_rows rows)
-
-pub values_source_no_close : (xs after_rows : List Token) (rows : List (List Tree)) (l : ℕ) →
-    Reads tuples behind_tuples xs (read rows after_rows) →
-    Misses (t.Sign s.Close) after_rows →
-    l ≡ length after_rows →
-    Reads values_source any xs (failed (Syntax l))
-unfolding values_source values_source_after_rows values_source_after_close values_source_after_alias
-    values_source_after_columns values_source_made
-values_source_no_close xs after_rows rows l reads_rows miss q =
-    part_read tuples values_source_after_rows behind_tuples any xs after_rows rows (failed (Syntax l)) reads_rows
-    (λ rows. starts_values_source_after_rows rows)
-    (word_missed (t.Sign s.Close) (values_source_after_close rows) any after_rows l miss q
-    (spelled_values_source_after_close rows))
-
-pub values_source_alias_failed : (xs after_rows after_close : List Token) (rows : List (List Tree)) (f : Fault) →
-    Reads tuples behind_tuples xs (read rows after_rows) →
-    after_rows ≡ (t.Sign s.Close) ∷ after_close →
-    Reads alias any after_close (failed f) →
-    Reads values_source any xs (failed f)
-unfolding values_source values_source_after_rows values_source_after_close values_source_after_alias
-    values_source_after_columns values_source_made
-values_source_alias_failed xs after_rows after_close rows f reads_rows at_close fails =
-    part_read tuples values_source_after_rows behind_tuples any xs after_rows rows (failed f) reads_rows
-    (λ rows. starts_values_source_after_rows rows)
-    (word_read (t.Sign s.Close) (values_source_after_close rows) any after_rows after_close (failed f) at_close
-    (reads_bind_failed alias (values_source_after_alias rows) any any after_close f fails
-    (λ named. starts_values_source_after_alias rows named) (λ named. spelled_values_source_after_alias rows named)))
-
-pub values_source_columns_failed : (xs after_rows after_close after_alias : List Token) (rows : List (List Tree))
-    (named : List ℕ) (f : Fault) →
-    Reads tuples behind_tuples xs (read rows after_rows) →
-    after_rows ≡ (t.Sign s.Close) ∷ after_close →
-    Reads alias any after_close (read named after_alias) →
-    Reads (in_brackets names) any after_alias (failed f) →
-    Reads values_source any xs (failed f)
-unfolding values_source values_source_after_rows values_source_after_close values_source_after_alias
-    values_source_after_columns values_source_made
-values_source_columns_failed xs after_rows after_close after_alias rows named f reads_rows at_close reads_alias fails =
-    part_read tuples values_source_after_rows behind_tuples any xs after_rows rows (failed f) reads_rows
-    (λ rows. starts_values_source_after_rows rows)
-    (word_read (t.Sign s.Close) (values_source_after_close rows) any after_rows after_close (failed f) at_close
-    (part_read alias (values_source_after_alias rows) any any after_close after_alias named (failed f) reads_alias
-    (λ named. starts_values_source_after_alias rows named)
-    (reads_bind_failed (in_brackets names) (values_source_after_columns rows named) any any after_alias f fails
-    (λ columns. starts_values_source_after_columns rows named columns)
-    (λ columns. spelled_values_source_after_columns rows named columns))))
-
-pub values_source_whole : (xs after_rows after_close after_alias rest : List Token) (rows : List (List Tree))
-    (named : List ℕ) (columns : List (List ℕ)) →
-    Reads tuples behind_tuples xs (read rows after_rows) →
-    after_rows ≡ (t.Sign s.Close) ∷ after_close →
-    Reads alias any after_close (read named after_alias) →
-    Reads (in_brackets names) any after_alias (read columns rest) →
-    Reads values_source any xs (read (source_of.Values (record { rows = rows; alias = named; columns = columns })) rest)
-unfolding values_source values_source_after_rows values_source_after_close values_source_after_alias
-    values_source_after_columns values_source_made
-values_source_whole xs after_rows after_close after_alias rest rows named columns reads_rows at_close reads_alias
-    reads_columns =
-    part_read tuples values_source_after_rows behind_tuples any xs after_rows rows
-    (read (values_source_made rows named columns) rest) reads_rows (λ rows. starts_values_source_after_rows rows)
-    (word_read (t.Sign s.Close) (values_source_after_close rows) any after_rows after_close
-    (read (values_source_made rows named columns) rest) at_close
-    (part_read alias (values_source_after_alias rows) any any after_close after_alias named
-    (read (values_source_made rows named columns) rest) reads_alias
-    (λ named. starts_values_source_after_alias rows named)
-    (part_read (in_brackets names) (values_source_after_columns rows named) any any after_alias rest columns
-    (read (values_source_made rows named columns) rest) reads_columns
-    (λ columns. starts_values_source_after_columns rows named columns)
-    (reads_gives (values_source_made rows named columns) (values_source_made rows named columns) any rest refl))))
-
--- subselect ")" [AS] name, behind "(" SELECT
-query_source_made : (n : ℕ) → (query : Subselect) → (named : List ℕ) → Source
-query_source_made n query named = source_of.Query (record { query = query; alias = named })
-
-query_source_after_alias : (n : ℕ) → (query : Subselect) → (named : List ℕ) → Lang Token Source
-query_source_after_alias n query named = gives (query_source_made n query named)
-
-spelled_query_source_after_alias : (n : ℕ) → (query : Subselect) → (named : List ℕ) →
-    Spelled (query_source_after_alias n query named)
-unfolding query_source_after_alias
-spelled_query_source_after_alias n query named = spelled_gives (query_source_made n query named)
-
-query_source_after_close : (n : ℕ) → (query : Subselect) → Lang Token Source
-query_source_after_close n query = bind alias (query_source_after_alias n query)
-
-spelled_query_source_after_close : (n : ℕ) → (query : Subselect) → Spelled (query_source_after_close n query)
-unfolding query_source_after_close
-spelled_query_source_after_close n query =
-    spelled_bind alias (query_source_after_alias n query) spelled_alias
-    (λ named. spelled_query_source_after_alias n query named)
-
-query_source_after_query : (n : ℕ) → (query : Subselect) → Lang Token Source
-query_source_after_query n query = token (t.Sign s.Close) (query_source_after_close n query)
-
-spelled_query_source_after_query : (n : ℕ) → (query : Subselect) → Spelled (query_source_after_query n query)
-unfolding query_source_after_query
-spelled_query_source_after_query n query =
-    spelled_token (t.Sign s.Close) (query_source_after_close n query) (spelled_query_source_after_close n query)
-
-starts_query_source_after_query : (n : ℕ) → (query : Subselect) →
-    Starts behind_subselect (query_source_after_query n query) any
-unfolding query_source_after_query query_source_after_close query_source_after_alias query_source_made
-starts_query_source_after_query n query =
-    starts_token behind_subselect any (t.Sign s.Close) (query_source_after_close n query) close_behind_subselect
-
-starts_query_source_after_alias : (n : ℕ) → (query : Subselect) → (named : List ℕ) →
-    Starts any (query_source_after_alias n query named) any
-unfolding query_source_after_query query_source_after_close query_source_after_alias query_source_made
-starts_query_source_after_alias n query named = starts_any (query_source_after_alias n query named) any
-
-pub query_source_query_failed : (n : ℕ) (xs : List Token) (f : Fault) →
-    Reads (subselect n) behind_subselect xs (failed f) →
-    Reads (query_source n) any xs (failed f)
-unfolding query_source query_source_after_query query_source_after_close query_source_after_alias query_source_made
-query_source_query_failed n xs f fails =
-    reads_bind_failed (subselect n) (query_source_after_query n) behind_subselect any xs f fails
-    (λ query. starts_query_source_after_query n query) (λ query. spelled_query_source_after_query n query)
-
-pub query_source_no_close : (n : ℕ) (xs after_query : List Token) (query : Subselect) (l : ℕ) →
-    Reads (subselect n) behind_subselect xs (read query after_query) →
-    Misses (t.Sign s.Close) after_query →
-    l ≡ length after_query →
-    Reads (query_source n) any xs (failed (Syntax l))
-unfolding query_source query_source_after_query query_source_after_close query_source_after_alias query_source_made
-query_source_no_close n xs after_query query l reads_query miss q =
-    part_read (subselect n) (query_source_after_query n) behind_subselect any xs after_query query (failed (Syntax l))
-    reads_query (λ query. starts_query_source_after_query n query)
-    (word_missed (t.Sign s.Close) (query_source_after_close n query) any after_query l miss q
-    (spelled_query_source_after_close n query))
-
-pub query_source_alias_failed : (n : ℕ) (xs after_query after_close : List Token) (query : Subselect) (f : Fault) →
-    Reads (subselect n) behind_subselect xs (read query after_query) →
-    after_query ≡ (t.Sign s.Close) ∷ after_close →
-    Reads alias any after_close (failed f) →
-    Reads (query_source n) any xs (failed f)
-unfolding query_source query_source_after_query query_source_after_close query_source_after_alias query_source_made
-query_source_alias_failed n xs after_query after_close query f reads_query at_close fails =
-    part_read (subselect n) (query_source_after_query n) behind_subselect any xs after_query query (failed f)
-    reads_query (λ query. starts_query_source_after_query n query)
-    (word_read (t.Sign s.Close) (query_source_after_close n query) any after_query after_close (failed f) at_close
-    (reads_bind_failed alias (query_source_after_alias n query) any any after_close f fails
-    (λ named. starts_query_source_after_alias n query named) (λ named. spelled_query_source_after_alias n query named)))
-
-pub query_source_whole : (n : ℕ) (xs after_query after_close rest : List Token) (query : Subselect) (named : List ℕ) →
-    Reads (subselect n) behind_subselect xs (read query after_query) →
-    after_query ≡ (t.Sign s.Close) ∷ after_close →
-    Reads alias any after_close (read named rest) →
-    Reads (query_source n) any xs (read (source_of.Query (record { query = query; alias = named })) rest)
-unfolding query_source query_source_after_query query_source_after_close query_source_after_alias query_source_made
-query_source_whole n xs after_query after_close rest query named reads_query at_close reads_alias =
-    part_read (subselect n) (query_source_after_query n) behind_subselect any xs after_query query
-    (read (query_source_made n query named) rest) reads_query (λ query. starts_query_source_after_query n query)
-    (word_read (t.Sign s.Close) (query_source_after_close n query) any after_query after_close
-    (read (query_source_made n query named) rest) at_close
-    (part_read alias (query_source_after_alias n query) any any after_close rest named
-    (read (query_source_made n query named) rest) reads_alias (λ named. starts_query_source_after_alias n query named)
-    (reads_gives (query_source_made n query named) (query_source_made n query named) any rest refl)))
+use Rattle.pg_parse_stmt.proofs.SourceRules.{spelled_values_source}
 
 -- behind "("
 pub spelled_bracketed : (n : ℕ) → Spelled (bracketed n)

@@ -1,9 +1,9 @@
 -- Constraints, and the parts of CREATE TABLE
-use Rattle.std.proofs.Common.{◌≡◌, ◌∷◌, ℕ, List, length, Option, Some, None, refl}
+use Rattle.std.proofs.Common.{◌≡◌, ◌∷◌, ℕ, List, length, Option, None, refl}
 use Rattle.pg_grammar.specs.declared.fault.Fault.{Fault}
 use Rattle.pg_grammar.specs.declared.fault.Fault.TheVariants.{Syntax}
-use Rattle.pg_grammar.specs.Languages.{Lang, gives, one, bind}
-use Rattle.pg_grammar.specs.Answers.{Misses, read, failed, Reads}
+use Rattle.pg_grammar.specs.Languages.{Lang, gives, bind}
+use Rattle.pg_grammar.specs.Answers.{Misses, Seen, read, failed, Reads}
 use Rattle.pg_grammar.proofs.Words.{Spelled, spelled_gives, spelled_token, spelled_bind}
 use Rattle.pg_grammar.proofs.Combining.{reads_gives, reads_bind_failed}
 use Rattle.pg_lexer.specs.declared.keyword.Keyword.TheVariants as k
@@ -16,9 +16,8 @@ use Rattle.pg_parse_stmt.specs.Forms.{in_brackets}
 use Rattle.pg_parse_stmt.specs.Spellings.{spelled_expr}
 use Rattle.pg_parse_stmt.proofs.Lists.{starts_any}
 use Rattle.pg_parse_stmt.proofs.Steps.{word_read, word_missed, part_read}
-use Rattle.pg_parse_stmt.specs.Grammar.{name, names, default, column_constraint_behind, column_constraint_named, column_rule_behind, table_constraint_behind}
-use Rattle.pg_parse_stmt.specs.Spellings.{spelled_in_brackets, spelled_names, spelled_constraint}
-use Rattle.pg_parse_stmt.specs.Words.{constraint_of}
+use Rattle.pg_parse_stmt.specs.Grammar.{names, default, column_constraint_behind, column_constraint_named, column_rule_behind, table_constraint_behind}
+use Rattle.pg_parse_stmt.specs.Spellings.{spelled_in_brackets, spelled_names}
 use Rattle.pg_values.specs.declared.value.Value.{Value}
 use Rattle.pg_parse_stmt.specs.declared.word.ConstraintWord.{ConstraintWord}
 use Rattle.pg_parse_stmt.specs.declared.word.ConstraintWord.TheVariants as constraint_word
@@ -103,7 +102,7 @@ module _ (n : Option (List ℕ)) (w : ConstraintWord) where
       reads_bind_failed (column_constraint_behind w) named_made any any xs f r
       (λ u. starts_any (named_made u) any) spelled_named_made
 
-  spelled_named_constraint : Spelled (column_constraint_named n w)
+  pub spelled_named_constraint : Spelled (column_constraint_named n w)
   unfolding column_constraint_named named_made
   spelled_named_constraint =
       spelled_bind (column_constraint_behind w) named_made (spelled_column_constraint w) spelled_named_made
@@ -144,61 +143,10 @@ rule_default_failed xs f r =
     reads_bind_failed default rule_default_made any any xs f r
     (λ u. starts_any (rule_default_made u) any) spelled_rule_default_made
 
-pub rule_unnamed_read : (w : ConstraintWord) (xs ys : List Token) (r : ColumnRule) →
-    Reads (column_constraint_named None w) any xs (read r ys) →
-    Reads (column_rule_behind (rule_word.Unnamed w)) any xs (read r ys)
+pub rule_unnamed : (w : ConstraintWord) (xs : List Token) (o : Seen Token ColumnRule) →
+    Reads (column_constraint_named None w) any xs o → Reads (column_rule_behind (rule_word.Unnamed w)) any xs o
 unfolding column_rule_behind
-rule_unnamed_read w xs ys r q = q
-
-pub rule_unnamed_failed : (w : ConstraintWord) (xs : List Token) (f : Fault) →
-    Reads (column_constraint_named None w) any xs (failed f) →
-    Reads (column_rule_behind (rule_word.Unnamed w)) any xs (failed f)
-unfolding column_rule_behind
-rule_unnamed_failed w xs f q = q
-
-constraint_then : List ℕ → Lang Token ColumnRule
-constraint_then n = bind (one constraint_of) (column_constraint_named (Some n))
-
-spelled_constraint_then : (n : List ℕ) → Spelled (constraint_then n)
-unfolding constraint_then
-spelled_constraint_then n =
-    spelled_bind (one constraint_of) (column_constraint_named (Some n)) spelled_constraint
-    (λ w. spelled_named_constraint (Some n) w)
-
-pub rule_no_name : (xs : List Token) (f : Fault) → Reads name any xs (failed f) →
-    Reads (column_rule_behind rule_word.Named) any xs (failed f)
-unfolding column_rule_behind constraint_then
-rule_no_name xs f r =
-    reads_bind_failed name constraint_then any any xs f r (λ n. starts_any
-    (constraint_then n) any) spelled_constraint_then
-
-pub rule_no_word : (xs ys : List Token) (n : List ℕ) (f : Fault) → Reads name any xs (read n ys) →
-    Reads (one constraint_of) any ys (failed f) → Reads (column_rule_behind rule_word.Named) any xs (failed f)
-unfolding column_rule_behind constraint_then
-rule_no_word xs ys n f r q =
-    part_read name constraint_then any any xs ys n (failed f) r (λ n. starts_any (constraint_then n) any)
-    (reads_bind_failed (one constraint_of) (column_constraint_named (Some n)) any any ys f q
-    (λ w. starts_any (column_constraint_named (Some n) w) any) (λ w. spelled_named_constraint (Some n) w))
-
-pub rule_no_constraint : (xs ys zs : List Token) (n : List ℕ) (w : ConstraintWord) (f : Fault) →
-    Reads name any xs (read n ys) → Reads (one constraint_of) any ys (read w zs) →
-    Reads (column_constraint_named (Some n) w) any zs (failed f) → Reads (column_rule_behind rule_word.Named) any xs
-    (failed f)
-unfolding column_rule_behind constraint_then
-rule_no_constraint xs ys zs n w f r q h =
-    part_read name constraint_then any any xs ys n (failed f) r (λ n. starts_any (constraint_then n) any)
-    (part_read (one constraint_of) (column_constraint_named (Some n)) any any ys zs w (failed f) q
-    (λ w. starts_any (column_constraint_named (Some n) w) any) h)
-
-pub rule_named : (xs ys zs ws : List Token) (n : List ℕ) (w : ConstraintWord) (c : ColumnRule) →
-    Reads name any xs (read n ys) → Reads (one constraint_of) any ys (read w zs) →
-    Reads (column_constraint_named (Some n) w) any zs (read c ws) → Reads (column_rule_behind rule_word.Named) any xs
-    (read c ws)
-unfolding column_rule_behind constraint_then
-rule_named xs ys zs ws n w c r q h =
-    part_read name constraint_then any any xs ys n (read c ws) r (λ n. starts_any (constraint_then n) any)
-    (part_read (one constraint_of) (column_constraint_named (Some n)) any any ys zs w (read c ws) q
-    (λ w. starts_any (column_constraint_named (Some n) w) any) h)
+rule_unnamed w xs o q = q
 
 table_unique_made : List (List ℕ) → Lang Token TableConstraint
 table_unique_made v = gives (table_constraint.Unique v)

@@ -13,6 +13,7 @@ use Rattle.pg_parse_expr.specs.Operators.{name_of}
 use Rattle.pg_parse_expr.specs.Tree.{Tree}
 use Rattle.pg_parse_stmt.specs.Behind.{any, is_open}
 use Rattle.pg_parse_stmt.specs.Forms.{list_of, in_brackets}
+use Rattle.pg_parse_stmt.specs.Spellings.{spelled_or_else}
 use Rattle.pg_parse_stmt.proofs.Lists.{starts_any}
 use Rattle.pg_parse_stmt.proofs.Steps.{part_read}
 use Rattle.pg_grammar.proofs.Leading.{reads_narrow}
@@ -105,3 +106,7 @@ element_no_expr xs ys f e r =
     (leads_right (bind name column_made) (bind (in_brackets expr) expr_made) any xs (bars_name xs ys e)).to (failed f)
     (reads_bind_failed (in_brackets expr) expr_made any any xs f r
     (λ u. starts_any (expr_made u) any) spelled_expr_made)
+
+pub spelled_columns : Spelled columns
+unfolding columns
+spelled_columns = spelled_or_else [] (in_brackets names)

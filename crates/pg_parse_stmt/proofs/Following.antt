@@ -10,7 +10,7 @@ use Rattle.pg_parse_stmt.specs.declared.tree.Direction.{Direction}
 use Rattle.pg_lexer.specs.Keywords.{spelling}
 use Rattle.pg_parse_expr.specs.Behind.{behind_comparison, behind_concatenation, behind_conjunction, behind_expr, behind_factor, behind_predicate, behind_product, behind_sum, has}
 use Rattle.pg_parse_expr.specs.Operators.{and_op, compare_op, concat_op, or_op, product_op, sum_op}
-use Rattle.pg_parse_stmt.specs.Behind.{behind_as, behind_columns, behind_condition, behind_conflict, behind_constraint_name, behind_direction, behind_from, behind_from_list, behind_guard, behind_item, behind_items, behind_joined, behind_limit, behind_list, behind_locked, behind_locking, behind_nulls, behind_of, behind_on_conflict, behind_order, behind_order_key, behind_returning, behind_rows, behind_sets, behind_statement, behind_subselect, behind_table, behind_target, behind_tuples, behind_using_list, behind_wait, behind_whens, begins_alias, is_comma, is_open, is_word}
+use Rattle.pg_parse_stmt.specs.Behind.{behind_as, behind_columns, behind_condition, behind_conflict, behind_direction, behind_from, behind_guard, behind_item, behind_items, behind_joined, behind_list, behind_nulls, behind_of, behind_on_conflict, behind_sets, behind_statement, behind_subselect, behind_table, behind_target, behind_tuples, behind_wait, begins_alias, is_comma, is_open, is_word}
 use Rattle.pg_parse_stmt.specs.Words.{direction_of, link_of}
 
 -- behind_expr
@@ -31,92 +31,13 @@ unfolding behind_expr behind_conjunction has or_op and_op behind_predicate behin
     compare_op behind_sum concat_op behind_product sum_op behind_factor product_op
 nulls_behind_expr = refl
 
-pub when_behind_expr : behind_expr (Some (t.Keyword k.When)) ≡ true
-unfolding behind_expr behind_conjunction has or_op and_op behind_predicate behind_comparison behind_concatenation
-    compare_op behind_sum concat_op behind_product sum_op behind_factor product_op
-when_behind_expr = refl
-
--- behind_columns
-pub select_behind_columns : behind_columns (Some (t.Keyword k.Select)) ≡ true
-unfolding behind_columns is_open
-select_behind_columns = refl
-
 pub values_behind_columns : behind_columns (Some (t.Keyword k.Values)) ≡ true
 unfolding behind_columns is_open
 values_behind_columns = refl
 
--- behind_table
-pub end_behind_table : (o : Option Token) → behind_statement o ≡ true → behind_table o ≡ true
-unfolding behind_statement behind_table begins_alias
-end_behind_table None e = refl
-end_behind_table (Some (t.Sign s.Semicolon)) e = refl
-end_behind_table _ e = absurd (false≢true e)
-
 pub on_behind_table : behind_table (Some (t.Keyword k.On)) ≡ true
 unfolding behind_table begins_alias
 on_behind_table = refl
-
-pub returning_behind_table : behind_table (Some (t.Keyword k.Returning)) ≡ true
-unfolding behind_table begins_alias
-returning_behind_table = refl
-
-pub set_behind_table : behind_table (Some (t.Keyword k.Set)) ≡ true
-unfolding behind_table begins_alias
-set_behind_table = refl
-
-pub using_behind_table : behind_table (Some (t.Keyword k.Using)) ≡ true
-unfolding behind_table begins_alias
-using_behind_table = refl
-
-pub where_behind_table : behind_table (Some (t.Keyword k.Where)) ≡ true
-unfolding behind_table begins_alias
-where_behind_table = refl
-
--- behind_as
-pub open_behind_as : behind_as (Some (t.Sign s.Open)) ≡ true
-unfolding behind_as is_word spelling
-open_behind_as = refl
-
-pub select_behind_as : behind_as (Some (t.Keyword k.Select)) ≡ true
-unfolding behind_as is_word spelling
-select_behind_as = refl
-
-pub values_behind_as : behind_as (Some (t.Keyword k.Values)) ≡ true
-unfolding behind_as is_word spelling
-values_behind_as = refl
-
--- behind_condition
-pub end_behind_condition : (o : Option Token) → behind_statement o ≡ true → behind_condition o ≡ true
-unfolding behind_statement behind_condition behind_expr is_word behind_conjunction has or_op spelling and_op
-    behind_predicate behind_comparison behind_concatenation compare_op behind_sum concat_op behind_product sum_op
-    behind_factor product_op
-end_behind_condition None e = refl
-end_behind_condition (Some (t.Sign s.Semicolon)) e = refl
-end_behind_condition _ e = absurd (false≢true e)
-
-pub for_behind_condition : behind_condition (Some (t.Keyword k.For)) ≡ true
-unfolding behind_condition behind_expr is_word behind_conjunction has or_op spelling and_op behind_predicate
-    behind_comparison behind_concatenation compare_op behind_sum concat_op behind_product sum_op behind_factor
-    product_op
-for_behind_condition = refl
-
-pub limit_behind_condition : behind_condition (Some (t.Keyword k.Limit)) ≡ true
-unfolding behind_condition behind_expr is_word behind_conjunction has or_op spelling and_op behind_predicate
-    behind_comparison behind_concatenation compare_op behind_sum concat_op behind_product sum_op behind_factor
-    product_op
-limit_behind_condition = refl
-
-pub order_behind_condition : behind_condition (Some (t.Keyword k.Order)) ≡ true
-unfolding behind_condition behind_expr is_word behind_conjunction has or_op spelling and_op behind_predicate
-    behind_comparison behind_concatenation compare_op behind_sum concat_op behind_product sum_op behind_factor
-    product_op
-order_behind_condition = refl
-
-pub returning_behind_condition : behind_condition (Some (t.Keyword k.Returning)) ≡ true
-unfolding behind_condition behind_expr is_word behind_conjunction has or_op spelling and_op behind_predicate
-    behind_comparison behind_concatenation compare_op behind_sum concat_op behind_product sum_op behind_factor
-    product_op
-returning_behind_condition = refl
 
 pub subselect_end_behind_condition : (o : Option Token) → behind_subselect o ≡ true → behind_condition o ≡ true
 unfolding behind_subselect behind_condition behind_expr is_word behind_conjunction has or_op spelling and_op
@@ -142,42 +63,6 @@ unfolding behind_items behind_item behind_list behind_as behind_expr is_comma is
     spelling and_op behind_predicate behind_comparison behind_concatenation compare_op behind_sum concat_op
     behind_product sum_op behind_factor product_op
 from_behind_items = refl
-
--- behind_returning
-pub end_behind_returning : (o : Option Token) → behind_statement o ≡ true → behind_returning o ≡ true
-unfolding behind_statement behind_returning behind_items is_word behind_item behind_list spelling behind_as behind_expr
-    is_comma behind_conjunction has or_op and_op behind_predicate behind_comparison behind_concatenation compare_op
-    behind_sum concat_op behind_product sum_op behind_factor product_op
-end_behind_returning None e = refl
-end_behind_returning (Some (t.Sign s.Semicolon)) e = refl
-end_behind_returning _ e = absurd (false≢true e)
-
-pub returning_goes_on_returning : behind_returning (Some (t.Keyword k.Returning)) ≡ false
-unfolding behind_returning behind_items is_word behind_item behind_list spelling behind_as behind_expr is_comma
-    behind_conjunction has or_op and_op behind_predicate behind_comparison behind_concatenation compare_op behind_sum
-    concat_op behind_product sum_op behind_factor product_op
-returning_goes_on_returning = refl
-
--- behind_sets
-pub end_behind_sets : (o : Option Token) → behind_statement o ≡ true → behind_sets o ≡ true
-unfolding behind_statement behind_sets behind_expr behind_list behind_conjunction has or_op is_comma and_op
-    behind_predicate behind_comparison behind_concatenation compare_op behind_sum concat_op behind_product sum_op
-    behind_factor product_op
-end_behind_sets None e = refl
-end_behind_sets (Some (t.Sign s.Semicolon)) e = refl
-end_behind_sets _ e = absurd (false≢true e)
-
-pub from_behind_sets : behind_sets (Some (t.Keyword k.From)) ≡ true
-unfolding behind_sets behind_expr behind_list behind_conjunction has or_op is_comma and_op behind_predicate
-    behind_comparison behind_concatenation compare_op behind_sum concat_op behind_product sum_op behind_factor
-    product_op
-from_behind_sets = refl
-
-pub returning_behind_sets : behind_sets (Some (t.Keyword k.Returning)) ≡ true
-unfolding behind_sets behind_expr behind_list behind_conjunction has or_op is_comma and_op behind_predicate
-    behind_comparison behind_concatenation compare_op behind_sum concat_op behind_product sum_op behind_factor
-    product_op
-returning_behind_sets = refl
 
 pub when_behind_sets : behind_sets (Some (t.Keyword k.When)) ≡ true
 unfolding behind_sets behind_expr behind_list behind_conjunction has or_op is_comma and_op behind_predicate
@@ -206,33 +91,6 @@ link_behind (t.Keyword k.Inner) l e = refl
 link_behind (t.Keyword k.Join) l e = refl
 link_behind _ l e = absurd (let o : None ≡ Some l = e in cc o)
 
--- behind_from
-pub end_behind_from : (o : Option Token) → behind_statement o ≡ true → behind_from o ≡ true
-unfolding behind_statement behind_from behind_joined has link_of behind_expr behind_table behind_conjunction or_op
-    begins_alias and_op behind_predicate behind_comparison behind_concatenation compare_op behind_sum concat_op
-    behind_product sum_op behind_factor product_op
-end_behind_from None e = refl
-end_behind_from (Some (t.Sign s.Semicolon)) e = refl
-end_behind_from _ e = absurd (false≢true e)
-
-pub for_behind_from : behind_from (Some (t.Keyword k.For)) ≡ true
-unfolding behind_from behind_joined has link_of behind_expr behind_table behind_conjunction or_op begins_alias and_op
-    behind_predicate behind_comparison behind_concatenation compare_op behind_sum concat_op behind_product sum_op
-    behind_factor product_op
-for_behind_from = refl
-
-pub limit_behind_from : behind_from (Some (t.Keyword k.Limit)) ≡ true
-unfolding behind_from behind_joined has link_of behind_expr behind_table behind_conjunction or_op begins_alias and_op
-    behind_predicate behind_comparison behind_concatenation compare_op behind_sum concat_op behind_product sum_op
-    behind_factor product_op
-limit_behind_from = refl
-
-pub order_behind_from : behind_from (Some (t.Keyword k.Order)) ≡ true
-unfolding behind_from behind_joined has link_of behind_expr behind_table behind_conjunction or_op begins_alias and_op
-    behind_predicate behind_comparison behind_concatenation compare_op behind_sum concat_op behind_product sum_op
-    behind_factor product_op
-order_behind_from = refl
-
 pub subselect_end_behind_from : (o : Option Token) → behind_subselect o ≡ true → behind_from o ≡ true
 unfolding behind_subselect behind_from behind_joined has link_of behind_expr behind_table behind_conjunction or_op
     begins_alias and_op behind_predicate behind_comparison behind_concatenation compare_op behind_sum concat_op
@@ -250,60 +108,6 @@ unfolding behind_from behind_joined has link_of behind_expr behind_table behind_
     behind_factor product_op
 where_behind_from = refl
 
--- behind_from_list
-pub end_behind_from_list : (o : Option Token) → behind_statement o ≡ true → behind_from_list o ≡ true
-unfolding behind_statement behind_from_list behind_from is_word behind_joined has link_of spelling behind_expr
-    behind_table behind_conjunction or_op begins_alias and_op behind_predicate behind_comparison behind_concatenation
-    compare_op behind_sum concat_op behind_product sum_op behind_factor product_op
-end_behind_from_list None e = refl
-end_behind_from_list (Some (t.Sign s.Semicolon)) e = refl
-end_behind_from_list _ e = absurd (false≢true e)
-
-pub from_goes_on_from_list : behind_from_list (Some (t.Keyword k.From)) ≡ false
-unfolding behind_from_list behind_from is_word behind_joined has link_of spelling behind_expr behind_table
-    behind_conjunction or_op begins_alias and_op behind_predicate behind_comparison behind_concatenation compare_op
-    behind_sum concat_op behind_product sum_op behind_factor product_op
-from_goes_on_from_list = refl
-
-pub returning_behind_from_list : behind_from_list (Some (t.Keyword k.Returning)) ≡ true
-unfolding behind_from_list behind_from is_word behind_joined has link_of spelling behind_expr behind_table
-    behind_conjunction or_op begins_alias and_op behind_predicate behind_comparison behind_concatenation compare_op
-    behind_sum concat_op behind_product sum_op behind_factor product_op
-returning_behind_from_list = refl
-
-pub where_behind_from_list : behind_from_list (Some (t.Keyword k.Where)) ≡ true
-unfolding behind_from_list behind_from is_word behind_joined has link_of spelling behind_expr behind_table
-    behind_conjunction or_op begins_alias and_op behind_predicate behind_comparison behind_concatenation compare_op
-    behind_sum concat_op behind_product sum_op behind_factor product_op
-where_behind_from_list = refl
-
--- behind_using_list
-pub end_behind_using_list : (o : Option Token) → behind_statement o ≡ true → behind_using_list o ≡ true
-unfolding behind_statement behind_using_list behind_from is_word behind_joined has link_of spelling behind_expr
-    behind_table behind_conjunction or_op begins_alias and_op behind_predicate behind_comparison behind_concatenation
-    compare_op behind_sum concat_op behind_product sum_op behind_factor product_op
-end_behind_using_list None e = refl
-end_behind_using_list (Some (t.Sign s.Semicolon)) e = refl
-end_behind_using_list _ e = absurd (false≢true e)
-
-pub returning_behind_using_list : behind_using_list (Some (t.Keyword k.Returning)) ≡ true
-unfolding behind_using_list behind_from is_word behind_joined has link_of spelling behind_expr behind_table
-    behind_conjunction or_op begins_alias and_op behind_predicate behind_comparison behind_concatenation compare_op
-    behind_sum concat_op behind_product sum_op behind_factor product_op
-returning_behind_using_list = refl
-
-pub using_goes_on_using_list : behind_using_list (Some (t.Keyword k.Using)) ≡ false
-unfolding behind_using_list behind_from is_word behind_joined has link_of spelling behind_expr behind_table
-    behind_conjunction or_op begins_alias and_op behind_predicate behind_comparison behind_concatenation compare_op
-    behind_sum concat_op behind_product sum_op behind_factor product_op
-using_goes_on_using_list = refl
-
-pub where_behind_using_list : behind_using_list (Some (t.Keyword k.Where)) ≡ true
-unfolding behind_using_list behind_from is_word behind_joined has link_of spelling behind_expr behind_table
-    behind_conjunction or_op begins_alias and_op behind_predicate behind_comparison behind_concatenation compare_op
-    behind_sum concat_op behind_product sum_op behind_factor product_op
-where_behind_using_list = refl
-
 -- behind_subselect
 pub close_behind_subselect : behind_subselect (Some (t.Sign s.Close)) ≡ true
 unfolding behind_subselect
@@ -318,44 +122,6 @@ nulls_behind_direction = refl
 pub nulls_goes_on_nulls : behind_nulls (Some (t.Keyword k.Nulls)) ≡ false
 unfolding behind_nulls is_word spelling
 nulls_goes_on_nulls = refl
-
--- behind_order
-pub end_behind_order : (o : Option Token) → behind_statement o ≡ true → behind_order o ≡ true
-unfolding behind_statement behind_order behind_list behind_order_key is_word is_comma behind_direction behind_expr
-    behind_nulls spelling direction_of has behind_conjunction or_op and_op behind_predicate behind_comparison
-    behind_concatenation compare_op behind_sum concat_op behind_product sum_op behind_factor product_op
-end_behind_order None e = refl
-end_behind_order (Some (t.Sign s.Semicolon)) e = refl
-end_behind_order _ e = absurd (false≢true e)
-
-pub for_behind_order : behind_order (Some (t.Keyword k.For)) ≡ true
-unfolding behind_order behind_list behind_order_key is_word is_comma behind_direction behind_expr behind_nulls spelling
-    direction_of has behind_conjunction or_op and_op behind_predicate behind_comparison behind_concatenation compare_op
-    behind_sum concat_op behind_product sum_op behind_factor product_op
-for_behind_order = refl
-
-pub limit_behind_order : behind_order (Some (t.Keyword k.Limit)) ≡ true
-unfolding behind_order behind_list behind_order_key is_word is_comma behind_direction behind_expr behind_nulls spelling
-    direction_of has behind_conjunction or_op and_op behind_predicate behind_comparison behind_concatenation compare_op
-    behind_sum concat_op behind_product sum_op behind_factor product_op
-limit_behind_order = refl
-
-pub order_goes_on_order : behind_order (Some (t.Keyword k.Order)) ≡ false
-unfolding behind_order behind_list behind_order_key is_word is_comma behind_direction behind_expr behind_nulls spelling
-    direction_of has behind_conjunction or_op and_op behind_predicate behind_comparison behind_concatenation compare_op
-    behind_sum concat_op behind_product sum_op behind_factor product_op
-order_goes_on_order = refl
-
--- behind_limit
-pub end_behind_limit : (o : Option Token) → behind_statement o ≡ true → behind_limit o ≡ true
-unfolding behind_statement behind_limit is_word spelling
-end_behind_limit None e = refl
-end_behind_limit (Some (t.Sign s.Semicolon)) e = refl
-end_behind_limit _ e = absurd (false≢true e)
-
-pub for_behind_limit : behind_limit (Some (t.Keyword k.For)) ≡ true
-unfolding behind_limit is_word spelling
-for_behind_limit = refl
 
 -- behind_wait
 pub nowait_goes_on_wait : behind_wait (Some (t.Keyword k.Nowait)) ≡ false
@@ -374,28 +140,6 @@ nowait_behind_of = refl
 pub skip_behind_of : behind_of (Some (t.Keyword k.Skip)) ≡ true
 unfolding behind_of is_word spelling
 skip_behind_of = refl
-
--- behind_locking
-pub end_behind_locking : (o : Option Token) → behind_statement o ≡ true → behind_locking o ≡ true
-unfolding behind_statement behind_locking behind_locked is_word behind_of behind_wait spelling
-end_behind_locking None e = refl
-end_behind_locking (Some (t.Sign s.Semicolon)) e = refl
-end_behind_locking _ e = absurd (false≢true e)
-
--- behind_rows
-pub end_behind_rows : (o : Option Token) → behind_statement o ≡ true → behind_rows o ≡ true
-unfolding behind_statement behind_rows behind_subselect behind_tuples behind_list is_comma
-end_behind_rows None e = refl
-end_behind_rows (Some (t.Sign s.Semicolon)) e = refl
-end_behind_rows _ e = absurd (false≢true e)
-
-pub on_behind_rows : behind_rows (Some (t.Keyword k.On)) ≡ true
-unfolding behind_rows behind_subselect behind_tuples behind_list is_comma
-on_behind_rows = refl
-
-pub returning_behind_rows : behind_rows (Some (t.Keyword k.Returning)) ≡ true
-unfolding behind_rows behind_subselect behind_tuples behind_list is_comma
-returning_behind_rows = refl
 
 -- behind_target
 pub do_behind_target : behind_target (Some (t.Keyword k.Do)) ≡ true
@@ -443,37 +187,3 @@ unfolding behind_guard behind_expr is_word behind_conjunction has or_op spelling
     behind_comparison behind_concatenation compare_op behind_sum concat_op behind_product sum_op behind_factor
     product_op
 then_behind_guard = refl
-
--- behind_whens
-pub end_behind_whens : (o : Option Token) → behind_statement o ≡ true → behind_whens o ≡ true
-unfolding behind_statement behind_whens behind_sets is_word behind_expr behind_list spelling behind_conjunction has
-    or_op is_comma and_op behind_predicate behind_comparison behind_concatenation compare_op behind_sum concat_op
-    behind_product sum_op behind_factor product_op
-end_behind_whens None e = refl
-end_behind_whens (Some (t.Sign s.Semicolon)) e = refl
-end_behind_whens _ e = absurd (false≢true e)
-
-pub returning_behind_whens : behind_whens (Some (t.Keyword k.Returning)) ≡ true
-unfolding behind_whens behind_sets is_word behind_expr behind_list spelling behind_conjunction has or_op is_comma and_op
-    behind_predicate behind_comparison behind_concatenation compare_op behind_sum concat_op behind_product sum_op
-    behind_factor product_op
-returning_behind_whens = refl
-
-pub when_goes_on_whens : behind_whens (Some (t.Keyword k.When)) ≡ false
-unfolding behind_whens behind_sets is_word behind_expr behind_list spelling behind_conjunction has or_op is_comma and_op
-    behind_predicate behind_comparison behind_concatenation compare_op behind_sum concat_op behind_product sum_op
-    behind_factor product_op
-when_goes_on_whens = refl
-
--- behind_constraint_name
-pub check_behind_constraint_name : behind_constraint_name (Some (t.Keyword k.Check)) ≡ true
-unfolding behind_constraint_name is_word spelling
-check_behind_constraint_name = refl
-
-pub primary_behind_constraint_name : behind_constraint_name (Some (t.Keyword k.Primary)) ≡ true
-unfolding behind_constraint_name is_word spelling
-primary_behind_constraint_name = refl
-
-pub unique_behind_constraint_name : behind_constraint_name (Some (t.Keyword k.Unique)) ≡ true
-unfolding behind_constraint_name is_word spelling
-unique_behind_constraint_name = refl

@@ -3,17 +3,20 @@ use Rattle.std.proofs.Common.{◌≡◌, ◌≤◌, ◌∷◌, ◌++◌, ◌+◌
 use Rattle.std.specs.Prelude.{not, ◌&&◌, is_some}
 use Rattle.pg_grammar.specs.declared.fault.Fault.{Fault}
 use Rattle.pg_grammar.specs.declared.fault.Fault.TheVariants.{Syntax}
-use Rattle.pg_grammar.specs.Languages.{Lang, Took, gives, token, one, bind, more}
+use Rattle.pg_grammar.specs.Languages.{Lang, Took, gives, one, bind, more}
 use Rattle.pg_grammar.specs.Answers.{next, Misses, Lacks, Seen, read, failed, Reads}
+use Rattle.pg_grammar.proofs.Rules.{Rule, Fits}
+use Rattle.pg_grammar.proofs.Rules as rule
+use Rattle.pg_grammar.proofs.Fitting.{spelled, own}
+use Rattle.pg_grammar.proofs.Reading.{Comes}
 use Rattle.pg_grammar.proofs.Leading.{Leads, leads_on, reads_narrow}
-use Rattle.pg_grammar.proofs.Words.{Starts, Bars, Spelled, starts_gives, starts_token, starts_one, starts_bind, starts_more, spelled_gives, spelled_token, spelled_bind, spelled_more, bars_one, bars_bind}
+use Rattle.pg_grammar.proofs.Words.{Starts, Bars, Spelled, starts_gives, starts_one, starts_bind, starts_more, spelled_gives, spelled_bind, spelled_more, bars_one, bars_bind}
 use Rattle.pg_grammar.proofs.Combining.{reads_gives, reads_bind_failed, leads_one, leads_bind, leads_more, leads_no_more, leads_assoc, leads_gives}
 use Rattle.pg_lexer.specs.declared.keyword.Keyword.TheVariants as k
 use Rattle.pg_lexer.specs.declared.token.Token.{Token}
 use Rattle.pg_lexer.specs.declared.token.Token.TheVariants as t
 use Rattle.pg_parse_expr.specs.Behind.{has, behind_expr}
 use Rattle.pg_parse_expr.specs.Grammar.{expr}
-use Rattle.pg_parse_expr.specs.Tree.{Tree}
 use Rattle.pg_parse_stmt.specs.Behind.{any, behind_table, behind_joined, behind_from}
 use Rattle.pg_parse_stmt.specs.Grammar.{one_source, SourceRule, sources_in, joined, alone, linked, next_source, from_of}
 use Rattle.pg_parse_stmt.specs.Spellings.{spelled_expr}
@@ -57,6 +60,25 @@ pub tables_counted : (list : List (Joined TableRef)) → sources_in one_source l
 tables_counted [] = refl
 tables_counted (x ∷ list) = let l = tables_counted list in omega (arith, l)
 
+-- source ON expr
+abbrev pub joined_rule : {S : Type 0} → Lang Token S → Rule Token (Joined S)
+joined_rule source =
+    rule.part behind_table behind_table source (λ x. rule.token (t.Keyword k.On)
+    (rule.part behind_expr behind_expr expr (λ e. rule.gives (record { source = x; on = Some e }))))
+
+joined_fits : {S : Type 0} (source : Lang Token S) → Spelled source → Fits (joined_rule source) behind_expr
+joined_fits source h =
+    search (own, on_behind_table, spelled_expr, h) depth 14
+
+pub joined_read : {S : Type 0} {source : Lang Token S} {xs : List Token} {o : Seen Token (Joined S)} → Spelled source →
+    Comes (joined_rule source) behind_expr xs o → Reads (joined source) behind_expr xs o
+unfolding joined
+joined_read {source = source} h c = c.to (joined_fits source h)
+
+pub spelled_joined : {S : Type 0} (source : Lang Token S) → Spelled source → Spelled (joined source)
+unfolding joined
+spelled_joined source h = spelled (joined_rule source) behind_expr (joined_fits source h)
+
 module _ {S : Type 0} (source : Lang Token S) (spelled_source : Spelled source) where
   alone_tree : S → Joined S
   alone_tree x = record { source = x; on = None }
@@ -88,128 +110,28 @@ module _ {S : Type 0} (source : Lang Token S) (spelled_source : Spelled source) 
   unfolding alone alone_made alone_tree
   alone_failed xs f r = reads_bind_failed source alone_made behind_table behind_table xs f r starts_made spelled_made
 
-  joined_tree : S → Tree → Joined S
-  joined_tree x e = record { source = x; on = Some e }
-
-  joined_made : S → Tree → Lang Token (Joined S)
-  joined_made x e = gives (joined_tree x e)
-
-  joined_on : S → Lang Token (Joined S)
-  joined_on x = bind expr (joined_made x)
-
-  joined_behind : S → Lang Token (Joined S)
-  joined_behind x = token (t.Keyword k.On) (joined_on x)
-
-  spelled_joined_made : (x : S) (e : Tree) → Spelled (joined_made x e)
-  unfolding joined_made
-  spelled_joined_made x e = spelled_gives (joined_tree x e)
-
-  spelled_on : (x : S) → Spelled (joined_on x)
-  unfolding joined_on
-  spelled_on x = spelled_bind expr (joined_made x) spelled_expr (spelled_joined_made x)
-
-  spelled_behind : (x : S) → Spelled (joined_behind x)
-  unfolding joined_behind
-  spelled_behind x = spelled_token (t.Keyword k.On) (joined_on x) (spelled_on x)
-
-  pub spelled_joined : Spelled (joined source)
-  unfolding joined joined_behind joined_on joined_made joined_tree
-  spelled_joined = spelled_bind source joined_behind spelled_source spelled_behind
-
-  starts_joined_made : (x : S) (e : Tree) → Starts behind_expr (joined_made x e) behind_expr
-  unfolding joined_made
-  starts_joined_made x e = starts_gives behind_expr behind_expr (joined_tree x e) (λ o h. h)
-
-  starts_behind : (x : S) → Starts behind_table (joined_behind x) behind_expr
-  unfolding joined_behind
-  starts_behind x = starts_token behind_table behind_expr (t.Keyword k.On) (joined_on x) on_behind_table
-
-  pub joined_not_read : (xs : List Token) (f : Fault) → Reads source behind_table xs (failed f) →
-      Reads (joined source) behind_expr xs (failed f)
-  unfolding joined joined_behind joined_on joined_made joined_tree
-  joined_not_read xs f r =
-      reads_bind_failed source joined_behind behind_table behind_expr xs f r starts_behind spelled_behind
-
-  pub joined_no_on : (xs ys : List Token) (x : S) (l : ℕ) → Reads source behind_table xs (read x ys) →
-      Misses (t.Keyword k.On) ys → l ≡ length ys →
-      Reads (joined source) behind_expr xs (failed (Syntax l))
-  unfolding joined joined_behind joined_on joined_made joined_tree
-  joined_no_on xs ys x l r miss q =
-      part_read source joined_behind behind_table behind_expr xs ys x (failed (Syntax l)) r starts_behind
-      (word_missed (t.Keyword k.On) (joined_on x) behind_expr ys l miss q (spelled_on x))
-
-  pub joined_no_expr : (xs ys zs : List Token) (x : S) (f : Fault) → Reads source behind_table xs (read x ys) →
-      ys ≡ t.Keyword k.On ∷ zs → Reads expr behind_expr zs (failed f) →
-      Reads (joined source) behind_expr xs (failed f)
-  unfolding joined joined_behind joined_on joined_made joined_tree
-  joined_no_expr xs ys zs x f r e q =
-      part_read source joined_behind behind_table behind_expr xs ys x (failed f) r starts_behind
-      (word_read (t.Keyword k.On) (joined_on x) behind_expr ys zs (failed f) e
-      (reads_bind_failed expr (joined_made x) behind_expr behind_expr zs f q (starts_joined_made x)
-      (spelled_joined_made x)))
-
-  pub joined_read : (xs ys zs ws : List Token) (x : S) (v : Tree) → Reads source behind_table xs (read x ys) →
-      ys ≡ t.Keyword k.On ∷ zs → Reads expr behind_expr zs (read v ws) →
-      Reads (joined source) behind_expr xs (read (record { source = x; on = Some v }) ws)
-  unfolding joined joined_behind joined_on joined_made joined_tree
-  joined_read xs ys zs ws x v r e q =
-      part_read source joined_behind behind_table behind_expr xs ys x (read (joined_tree x v) ws) r starts_behind
-      (word_read (t.Keyword k.On) (joined_on x) behind_expr ys zs (read (joined_tree x v) ws) e
-      (part_read expr (joined_made x) behind_expr behind_expr zs ws v (read (joined_tree x v) ws) q
-      (starts_joined_made x)
-      (reads_gives (joined_tree x v) (joined_tree x v) behind_expr ws refl)))
-
-  pub spelled_linked : (l : Link) → Spelled (linked source l)
-  unfolding linked
-  spelled_linked link.Comma = spelled_alone
-  spelled_linked link.Inner = spelled_token (t.Keyword k.Join) (joined source) spelled_joined
-  spelled_linked link.Join = spelled_joined
-
-  comma_is : (xs : List Token) (o : Seen Token (Joined S)) → Reads (alone source) behind_table xs o →
+  pub comma_is : (xs : List Token) (o : Seen Token (Joined S)) → Reads (alone source) behind_table xs o →
       Reads (linked source link.Comma) behind_joined xs o
   unfolding linked
   comma_is xs o r = reads_narrow (alone source) behind_table behind_joined xs o joined_table r
 
-  pub comma_read : (xs ys : List Token) (v : Joined S) → Reads (alone source) behind_table xs (read v ys) →
-      Reads (linked source link.Comma) behind_joined xs (read v ys)
-  comma_read xs ys v r = comma_is xs (read v ys) r
-
-  pub comma_failed : (xs : List Token) (f : Fault) → Reads (alone source) behind_table xs (failed f) →
-      Reads (linked source link.Comma) behind_joined xs (failed f)
-  comma_failed xs f r = comma_is xs (failed f) r
-
-  join_is : (xs : List Token) (o : Seen Token (Joined S)) → Reads (joined source) behind_expr xs o →
+  pub join_is : (xs : List Token) (o : Seen Token (Joined S)) → Reads (joined source) behind_expr xs o →
       Reads (linked source link.Join) behind_joined xs o
   unfolding linked
   join_is xs o r = reads_narrow (joined source) behind_expr behind_joined xs o joined_expr r
 
-  pub join_read : (xs ys : List Token) (v : Joined S) → Reads (joined source) behind_expr xs (read v ys) →
-      Reads (linked source link.Join) behind_joined xs (read v ys)
-  join_read xs ys v r = join_is xs (read v ys) r
-
-  pub join_failed : (xs : List Token) (f : Fault) → Reads (joined source) behind_expr xs (failed f) →
-      Reads (linked source link.Join) behind_joined xs (failed f)
-  join_failed xs f r = join_is xs (failed f) r
-
-  inner_is : (xs ys : List Token) (o : Seen Token (Joined S)) → xs ≡ t.Keyword k.Join ∷ ys →
+  pub inner_is : (xs ys : List Token) (o : Seen Token (Joined S)) → xs ≡ t.Keyword k.Join ∷ ys →
       Reads (joined source) behind_expr ys o → Reads (linked source link.Inner) behind_joined xs o
   unfolding linked
   inner_is xs ys o e r =
       word_read (t.Keyword k.Join) (joined source) behind_joined xs ys o e
       (reads_narrow (joined source) behind_expr behind_joined ys o joined_expr r)
 
-  pub inner_read : (xs ys zs : List Token) (v : Joined S) → xs ≡ t.Keyword k.Join ∷ ys →
-      Reads (joined source) behind_expr ys (read v zs) → Reads (linked source link.Inner) behind_joined xs (read v zs)
-  inner_read xs ys zs v e r = inner_is xs ys (read v zs) e r
-
-  pub inner_failed : (xs ys : List Token) (f : Fault) → xs ≡ t.Keyword k.Join ∷ ys →
-      Reads (joined source) behind_expr ys (failed f) → Reads (linked source link.Inner) behind_joined xs (failed f)
-  inner_failed xs ys f e r = inner_is xs ys (failed f) e r
-
   pub inner_no_join : (xs : List Token) (l : ℕ) → Misses (t.Keyword k.Join) xs → l ≡ length xs →
       Reads (linked source link.Inner) behind_joined xs (failed (Syntax l))
   unfolding linked
-  inner_no_join xs l miss q = word_missed (t.Keyword k.Join) (joined source) behind_joined xs l miss q spelled_joined
+  inner_no_join xs l miss q = word_missed (t.Keyword k.Join) (joined source) behind_joined xs l miss q
+      (spelled_joined source spelled_source)
 
 module _ {S : Type 0} (source : SourceRule S) (count : S → ℕ) (spelled_source : (n : ℕ) → Spelled (source n))
     (n : ℕ) where

@@ -1,26 +1,26 @@
 -- Lemmas of the parser, from its small functions up to whole statements, and of the laws of the grammar.
--- Of a rule of several parts RULE_after_PART is what is left of it behind that part. RULE_no_WORD and RULE_PART_failed
--- say what the rule answers where that word or part is not read, and RULE_whole, where all are.
+-- A rule of several parts in a row is data: RULE_rule, with RULE_fits, which says that it fits, and RULE_read, by which
+-- each exit of its function goes. Of a choice, RULE_no_WORD and RULE_PART_failed say what it answers where that word or
+-- part is not read.
 pub mod Exits
 pub mod Lists
 pub mod Steps
 pub mod Following
 pub mod Tables
 pub mod Conditions
-pub mod Assignments
 pub mod Naming
 pub mod Orders
 pub mod Locks
 pub mod Froms
 pub mod Sources
-pub mod Subselects
+pub mod SourceRules
 pub mod Elements
-pub mod Creates
 pub mod Bracketed
 pub mod Items
-pub mod Selects
+pub mod Starting
+pub mod PartRules
 pub mod Inserts
-pub mod Updates
+pub mod ConflictRules
 pub mod Constraints
 pub mod Parts
 pub mod Merges
@@ -36,8 +36,14 @@ pub mod WritingCreates
 pub mod WritingStatements
 pub mod Agreements
 pub mod AgreeParts
+pub mod Follows
 pub mod AgreeStatements
 pub mod AgreeCreates
+pub mod Named
+pub mod Updates
+pub mod InsertRules
+pub mod StatementRules
+pub mod AgreeSentences
 pub mod Keeping
 pub mod KeepingTokens
 pub mod KeepingParts

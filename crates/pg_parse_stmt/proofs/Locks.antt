@@ -2,18 +2,18 @@
 use Rattle.std.proofs.Common.{◌≡◌, ◌∷◌, ℕ, Bool, true, List, length, Option, Some, refl, sym, ap, ◌∙◌}
 use Rattle.pg_grammar.specs.declared.fault.Fault.{Fault}
 use Rattle.pg_grammar.specs.declared.fault.Fault.TheVariants.{Syntax}
-use Rattle.pg_grammar.specs.Languages.{Lang, gives, one, bind, either}
+use Rattle.pg_grammar.specs.Languages.{Lang, gives, one, either}
 use Rattle.pg_grammar.specs.Answers.{next, Misses, Seen, read, failed, Reads}
-use Rattle.pg_grammar.proofs.Words.{Starts, Spelled, starts_gives, starts_token, starts_bind, starts_either, spelled_gives, spelled_token, spelled_bind, bars_token, bars_gives, bars_either}
+use Rattle.pg_grammar.proofs.Words.{Starts, Spelled, starts_gives, starts_token, starts_either, spelled_gives, spelled_token, spelled_bind, bars_token, bars_gives, bars_either}
 use Rattle.pg_grammar.proofs.Combining.{reads_gives, reads_bind_failed, leads_left, leads_right}
 use Rattle.pg_lexer.specs.declared.keyword.Keyword.TheVariants as k
 use Rattle.pg_lexer.specs.declared.token.Token.{Token}
 use Rattle.pg_lexer.specs.declared.token.Token.TheVariants as t
-use Rattle.pg_parse_stmt.specs.Behind.{any, behind_wait, behind_of, behind_locked}
+use Rattle.pg_parse_stmt.specs.Behind.{any, behind_wait}
 use Rattle.pg_parse_stmt.specs.Forms.{word}
 use Rattle.pg_parse_stmt.specs.Spellings.{spelled_or_else, spelled_optional}
-use Rattle.pg_parse_stmt.proofs.Lists.{starts_any, and_left}
-use Rattle.pg_parse_stmt.proofs.Steps.{word_read, word_missed, part_read, starts_optional, and_right}
+use Rattle.pg_parse_stmt.proofs.Lists.{starts_any}
+use Rattle.pg_parse_stmt.proofs.Steps.{word_read, word_missed, part_read, starts_optional}
 use Rattle.pg_parse_stmt.specs.Grammar.{name, strength_behind, strength, of_table, lock_wait, locked, locking}
 use Rattle.pg_parse_stmt.specs.Spellings.{spelled_strength as spelled_strength_word, spelled_strength_behind}
 use Rattle.pg_parse_stmt.specs.Words.{strength_of}
@@ -21,8 +21,7 @@ use Rattle.pg_parse_stmt.specs.declared.tree.LockStrength.{LockStrength}
 use Rattle.pg_parse_stmt.specs.declared.tree.LockStrength.TheVariants as lock
 use Rattle.pg_parse_stmt.specs.declared.tree.LockWait.{LockWait}
 use Rattle.pg_parse_stmt.specs.declared.tree.LockWait.TheVariants as wait_of
-use Rattle.pg_parse_stmt.specs.declared.tree.Locking.{Locking}
-use Rattle.pg_parse_stmt.proofs.Following.{nowait_behind_of, nowait_goes_on_wait, skip_behind_of, skip_goes_on_wait}
+use Rattle.pg_parse_stmt.proofs.Following.{nowait_goes_on_wait, skip_goes_on_wait}
 
 module _ (xs ys zs : List Token) (l : ℕ) where
   pub key_share : xs ≡ t.Keyword k.Share ∷ ys → Reads (strength_behind lock.KeyShare) any xs (read lock.KeyShare ys)
@@ -81,7 +80,7 @@ strength_failed xs f r =
     reads_bind_failed (one strength_of) strength_behind any any xs f r
     (λ u. starts_any (strength_behind u) any) spelled_strength_behind
 
-spelled_strength : Spelled strength
+pub spelled_strength : Spelled strength
 unfolding strength
 spelled_strength = spelled_bind (one strength_of) strength_behind spelled_strength_word spelled_strength_behind
 
@@ -148,13 +147,13 @@ module _ (xs ys zs : List Token) (l : ℕ) where
       (read wait_of.Wait xs)
       (reads_gives wait_of.Wait wait_of.Wait behind_wait xs refl)
 
-spelled_wait : Spelled lock_wait
+pub spelled_wait : Spelled lock_wait
 unfolding lock_wait
 spelled_wait =
     spelled_or_else wait_of.Wait (either (word k.Nowait (gives wait_of.Fail))
     (word k.Skip (word k.Locked (gives wait_of.Skip))))
 
-starts_wait : (b : Option Token → Bool) → b (Some (t.Keyword k.Nowait)) ≡ true → b (Some (t.Keyword k.Skip)) ≡ true →
+pub starts_wait : (b : Option Token → Bool) → b (Some (t.Keyword k.Nowait)) ≡ true → b (Some (t.Keyword k.Skip)) ≡ true →
     Starts b lock_wait b
 unfolding lock_wait
 starts_wait b h i =
@@ -164,110 +163,6 @@ starts_wait b h i =
     (starts_token b b (t.Keyword k.Nowait) (gives wait_of.Fail) h)
     (starts_token b b (t.Keyword k.Skip) (word k.Locked (gives wait_of.Skip)) i))
     (starts_gives b b wait_of.Wait (λ o e. e))
-
-locked_of : (o : Option Token) → behind_locked o ≡ true → behind_of o ≡ true
-unfolding behind_locked
-locked_of o e = and_left (behind_of o) (behind_wait o) e
-
-locked_wait : (o : Option Token) → behind_locked o ≡ true → behind_wait o ≡ true
-unfolding behind_locked
-locked_wait o e = and_right (behind_of o) (behind_wait o) e
-
--- strength [OF name] [NOWAIT | SKIP LOCKED], behind FOR
-locked_made : (mode : LockStrength) → (table : Option (List ℕ)) → (wait : LockWait) → Locking
-locked_made mode table wait = record { strength = mode; table = table; wait = wait }
-
-locked_after_wait : (mode : LockStrength) → (table : Option (List ℕ)) → (wait : LockWait) → Lang Token Locking
-locked_after_wait mode table wait = gives (locked_made mode table wait)
-
-spelled_locked_after_wait : (mode : LockStrength) → (table : Option (List ℕ)) → (wait : LockWait) →
-    Spelled (locked_after_wait mode table wait)
-unfolding locked_after_wait
-spelled_locked_after_wait mode table wait = spelled_gives (locked_made mode table wait)
-
-locked_after_table : (mode : LockStrength) → (table : Option (List ℕ)) → Lang Token Locking
-locked_after_table mode table = bind lock_wait (locked_after_wait mode table)
-
-spelled_locked_after_table : (mode : LockStrength) → (table : Option (List ℕ)) → Spelled (locked_after_table mode table)
-unfolding locked_after_table
-spelled_locked_after_table mode table =
-    spelled_bind lock_wait (locked_after_wait mode table) spelled_wait
-    (λ wait. spelled_locked_after_wait mode table wait)
-
-locked_after_strength : (mode : LockStrength) → Lang Token Locking
-locked_after_strength mode = bind of_table (locked_after_table mode)
-
-spelled_locked_after_strength : (mode : LockStrength) → Spelled (locked_after_strength mode)
-unfolding locked_after_strength
-spelled_locked_after_strength mode =
-    spelled_bind of_table (locked_after_table mode) spelled_of (λ table. spelled_locked_after_table mode table)
-
-starts_locked_after_strength : (mode : LockStrength) → Starts any (locked_after_strength mode) behind_locked
-unfolding locked_after_strength locked_after_table locked_after_wait locked_made
-starts_locked_after_strength mode = starts_any (locked_after_strength mode) behind_locked
-
-starts_locked_after_table : (mode : LockStrength) → (table : Option (List ℕ)) →
-    Starts behind_of (locked_after_table mode table) behind_locked
-unfolding locked_after_strength locked_after_table locked_after_wait locked_made
-starts_locked_after_table mode table =
-    starts_bind behind_of behind_of behind_locked lock_wait (locked_after_wait mode table)
-    (starts_wait behind_of nowait_behind_of skip_behind_of) (λ wait. starts_gives behind_of behind_locked
-    (locked_made mode table wait) locked_of)
-
-starts_locked_after_wait : (mode : LockStrength) → (table : Option (List ℕ)) → (wait : LockWait) →
-    Starts behind_wait (locked_after_wait mode table wait) behind_locked
-unfolding locked_after_strength locked_after_table locked_after_wait locked_made
-starts_locked_after_wait mode table wait =
-    starts_gives behind_wait behind_locked (locked_made mode table wait) locked_wait
-
-pub locked_strength_failed : (xs : List Token) (f : Fault) → Reads strength any xs (failed f) →
-    Reads locked behind_locked xs (failed f)
-unfolding locked locked_after_strength locked_after_table locked_after_wait locked_made
-locked_strength_failed xs f fails =
-    reads_bind_failed strength locked_after_strength any behind_locked xs f fails
-    (λ mode. starts_locked_after_strength mode) (λ mode. spelled_locked_after_strength mode)
-
-pub locked_table_failed : (xs after_strength : List Token) (mode : LockStrength) (f : Fault) →
-    Reads strength any xs (read mode after_strength) →
-    Reads of_table behind_of after_strength (failed f) →
-    Reads locked behind_locked xs (failed f)
-unfolding locked locked_after_strength locked_after_table locked_after_wait locked_made
-locked_table_failed xs after_strength mode f reads_strength fails =
-    part_read strength locked_after_strength any behind_locked xs after_strength mode (failed f) reads_strength
-    (λ mode. starts_locked_after_strength mode)
-    (reads_bind_failed of_table (locked_after_table mode) behind_of behind_locked after_strength f fails
-    (λ table. starts_locked_after_table mode table) (λ table. spelled_locked_after_table mode table))
-
-pub locked_wait_failed : (xs after_strength after_table : List Token) (mode : LockStrength) (table : Option (List ℕ))
-    (f : Fault) →
-    Reads strength any xs (read mode after_strength) →
-    Reads of_table behind_of after_strength (read table after_table) →
-    Reads lock_wait behind_wait after_table (failed f) →
-    Reads locked behind_locked xs (failed f)
-unfolding locked locked_after_strength locked_after_table locked_after_wait locked_made
-locked_wait_failed xs after_strength after_table mode table f reads_strength reads_table fails =
-    part_read strength locked_after_strength any behind_locked xs after_strength mode (failed f) reads_strength
-    (λ mode. starts_locked_after_strength mode)
-    (part_read of_table (locked_after_table mode) behind_of behind_locked after_strength after_table table (failed f)
-    reads_table (λ table. starts_locked_after_table mode table)
-    (reads_bind_failed lock_wait (locked_after_wait mode table) behind_wait behind_locked after_table f fails
-    (λ wait. starts_locked_after_wait mode table wait) (λ wait. spelled_locked_after_wait mode table wait)))
-
-pub locked_whole : (xs after_strength after_table rest : List Token) (mode : LockStrength) (table : Option (List ℕ))
-    (wait : LockWait) →
-    Reads strength any xs (read mode after_strength) →
-    Reads of_table behind_of after_strength (read table after_table) →
-    Reads lock_wait behind_wait after_table (read wait rest) →
-    Reads locked behind_locked xs (read (record { strength = mode; table = table; wait = wait }) rest)
-unfolding locked locked_after_strength locked_after_table locked_after_wait locked_made
-locked_whole xs after_strength after_table rest mode table wait reads_strength reads_table reads_wait =
-    part_read strength locked_after_strength any behind_locked xs after_strength mode
-    (read (locked_made mode table wait) rest) reads_strength (λ mode. starts_locked_after_strength mode)
-    (part_read of_table (locked_after_table mode) behind_of behind_locked after_strength after_table table
-    (read (locked_made mode table wait) rest) reads_table (λ table. starts_locked_after_table mode table)
-    (part_read lock_wait (locked_after_wait mode table) behind_wait behind_locked after_table rest wait
-    (read (locked_made mode table wait) rest) reads_wait (λ wait. starts_locked_after_wait mode table wait)
-    (reads_gives (locked_made mode table wait) (locked_made mode table wait) behind_locked rest refl)))
 
 pub starts_locking : (b : Option Token → Bool) → b (Some (t.Keyword k.For)) ≡ true → Starts b locking b
 unfolding locking

@@ -5,7 +5,7 @@ use Rattle.pg_grammar.specs.declared.fault.Fault.{Fault}
 use Rattle.pg_grammar.specs.declared.fault.Fault.TheVariants.{Syntax}
 use Rattle.pg_grammar.specs.Languages.{Lang, Took, gives, one, bind, more}
 use Rattle.pg_grammar.specs.Answers.{next, Misses, Lacks, Seen, read, failed, Reads}
-use Rattle.pg_grammar.proofs.Words.{Starts, Bars, Spelled, starts_gives, starts_one, starts_bind, spelled_gives, spelled_bind, bars_token, bars_one, bars_bind}
+use Rattle.pg_grammar.proofs.Words.{Starts, Bars, Spelled, starts_one, starts_bind, spelled_gives, spelled_bind, bars_token, bars_one, bars_bind}
 use Rattle.pg_grammar.proofs.Combining.{reads_gives, reads_one, reads_bind_failed, leads_left, leads_right}
 use Rattle.pg_lexer.specs.declared.keyword.Keyword.TheVariants as k
 use Rattle.pg_lexer.specs.declared.sign.Sign.TheVariants as s
@@ -25,13 +25,12 @@ use Rattle.pg_grammar.proofs.Leading.{Leads, leads_on, reads_narrow}
 use Rattle.pg_grammar.proofs.Words.{spelled_more, bars_from}
 use Rattle.pg_grammar.proofs.Combining.{leads_bind, leads_more, leads_no_more, leads_assoc, leads_gives, leads_one}
 use Rattle.pg_lexer.specs.Keywords.{may_be_name}
-use Rattle.pg_parse_stmt.specs.Behind.{behind_constraint_name, begins_constraint}
+use Rattle.pg_parse_stmt.specs.Behind.{begins_constraint}
 use Rattle.pg_parse_stmt.specs.Grammar.{name, default, column_rule_behind, next_rule, column_part, table_constraint_behind, constraint_part, part}
-use Rattle.pg_parse_stmt.specs.Spellings.{spelled_constraint, spelled_kind}
+use Rattle.pg_parse_stmt.specs.Spellings.{spelled_constraint}
 use Rattle.pg_parse_stmt.specs.Words.{kind_of, constraint_of, negative_of}
 use Rattle.pg_values.specs.declared.value.Value.{Value}
 use Rattle.pg_values.specs.declared.value.Value.TheVariants as value
-use Rattle.pg_values.specs.declared.value.Kind.{Kind}
 use Rattle.pg_parse_stmt.specs.declared.word.ConstraintWord.{ConstraintWord}
 use Rattle.pg_parse_stmt.specs.declared.word.RuleWord.{RuleWord}
 use Rattle.pg_parse_stmt.specs.declared.tree.ColumnRule.{ColumnRule}
@@ -40,7 +39,6 @@ use Rattle.pg_parse_stmt.specs.declared.tree.TablePart.{TablePart}
 use Rattle.pg_parse_stmt.specs.declared.tree.TablePart.TheVariants as part_of
 use Rattle.pg_parse_stmt.proofs.Exits.{reads_lacks, lacks_first, lacks_end}
 use Rattle.pg_parse_stmt.proofs.Constraints.{spelled_table_constraint}
-use Rattle.pg_parse_stmt.proofs.Following.{check_behind_constraint_name, primary_behind_constraint_name, unique_behind_constraint_name}
 
 module _ (xs ys : List Token) (u : Token) (v : Value) (l : ℕ) where
   pub negative_read : xs ≡ u ∷ ys → Some v ≡ negative_of u → Reads (one negative_of) any xs (read v ys)
@@ -87,21 +85,13 @@ minus_no_value : (u : Token) (x : Value) → u ≡ t.Sign s.Minus → value_of u
 unfolding value_of
 minus_no_value u x e h = let o : None ≡ Some x = sym (ap value_of e) ∙ h in cc o
 
-default_minus : (xs ys : List Token) (o : Seen Token Value) → xs ≡ t.Sign s.Minus ∷ ys →
+pub default_minus : (xs ys : List Token) (o : Seen Token Value) → xs ≡ t.Sign s.Minus ∷ ys →
     Reads (one negative_of) any ys o → Reads default any xs o
 unfolding default
 default_minus xs ys o e r =
     (leads_right (one value_of) (sign s.Minus (one negative_of)) any xs
     (bars_one any value_of 0 xs (λ u x n h. minus_no_value u x (cc (e, n)) h))).to o
     (word_read (t.Sign s.Minus) (one negative_of) any xs ys o e r)
-
-pub default_minus_read : (xs ys zs : List Token) (v : Value) → xs ≡ t.Sign s.Minus ∷ ys →
-    Reads (one negative_of) any ys (read v zs) → Reads default any xs (read v zs)
-default_minus_read xs ys zs v e r = default_minus xs ys (read v zs) e r
-
-pub default_minus_failed : (xs ys : List Token) (f : Fault) → xs ≡ t.Sign s.Minus ∷ ys →
-    Reads (one negative_of) any ys (failed f) → Reads default any xs (failed f)
-default_minus_failed xs ys f e r = default_minus xs ys (failed f) e r
 
 -- the rules of a column
 after_rule : List ColumnRule → ColumnRule → Lang Token (List ColumnRule)
@@ -194,181 +184,31 @@ by_words b h i j (t.Keyword k.Unique) x e = i
 by_words b h i j (t.Keyword k.Check) x e = j
 by_words b h i j _ x e = absurd (cc e)
 
-starts_by_word : (b g : Option Token → Bool) → b (Some (t.Keyword k.Primary)) ≡ true →
+pub starts_by_word : (b g : Option Token → Bool) → b (Some (t.Keyword k.Primary)) ≡ true →
     b (Some (t.Keyword k.Unique)) ≡ true → b (Some (t.Keyword k.Check)) ≡ true →
     Starts b (bind (one constraint_of) table_constraint_behind) g
 starts_by_word b g h i j =
     starts_bind b any g (one constraint_of) table_constraint_behind (starts_one b any constraint_of (by_words b h i j))
     (λ w. starts_any (table_constraint_behind w) g)
 
--- name kind, and any number of rules
-column_part_made : (named : List ℕ) → (kind : Kind) → (rules : List ColumnRule) → TablePart
-column_part_made named kind rules = part_of.Column (record { name = named; kind = kind; rules = rules })
+-- a column, and a constraint of the table
+column_after_name : List ℕ → Lang Token TablePart
+column_after_name n =
+    bind (one kind_of) (λ x. bind (more next_rule []) (λ r.
+    gives (part_of.Column (record { name = n; kind = x; rules = r }))))
 
-column_after_rules : (named : List ℕ) → (kind : Kind) → (rules : List ColumnRule) → Lang Token TablePart
-column_after_rules named kind rules = gives (column_part_made named kind rules)
-
-spelled_column_after_rules : (named : List ℕ) → (kind : Kind) → (rules : List ColumnRule) →
-    Spelled (column_after_rules named kind rules)
-unfolding column_after_rules
-spelled_column_after_rules named kind rules = spelled_gives (column_part_made named kind rules)
-
-column_after_kind : (named : List ℕ) → (kind : Kind) → Lang Token TablePart
-column_after_kind named kind = bind (more next_rule []) (column_after_rules named kind)
-
-spelled_column_after_kind : (named : List ℕ) → (kind : Kind) → Spelled (column_after_kind named kind)
-unfolding column_after_kind
-spelled_column_after_kind named kind =
-    spelled_bind (more next_rule []) (column_after_rules named kind) (spelled_more next_rule [])
-    (λ rules. spelled_column_after_rules named kind rules)
-
-column_after_name : (named : List ℕ) → Lang Token TablePart
-column_after_name named = bind (one kind_of) (column_after_kind named)
-
-spelled_column_after_name : (named : List ℕ) → Spelled (column_after_name named)
-unfolding column_after_name
-spelled_column_after_name named =
-    spelled_bind (one kind_of) (column_after_kind named) spelled_kind (λ kind. spelled_column_after_kind named kind)
-
-starts_column_after_name : (named : List ℕ) → Starts any (column_after_name named) behind_part
-unfolding column_after_name column_after_kind column_after_rules column_part_made
-starts_column_after_name named = starts_any (column_after_name named) behind_part
-
-starts_column_after_kind : (named : List ℕ) → (kind : Kind) → Starts any (column_after_kind named kind) behind_part
-unfolding column_after_name column_after_kind column_after_rules column_part_made
-starts_column_after_kind named kind = starts_any (column_after_kind named kind) behind_part
-
-starts_column_after_rules : (named : List ℕ) → (kind : Kind) → (rules : List ColumnRule) →
-    Starts behind_part (column_after_rules named kind rules) behind_part
-unfolding column_after_name column_after_kind column_after_rules column_part_made
-starts_column_after_rules named kind rules =
-    starts_gives behind_part behind_part (column_part_made named kind rules) (λ o e. e)
-
-pub column_part_name_failed : (xs : List Token) (f : Fault) → Reads name any xs (failed f) →
-    Reads column_part behind_part xs (failed f)
-unfolding column_part column_after_name column_after_kind column_after_rules column_part_made
-column_part_name_failed xs f fails =
-    reads_bind_failed name column_after_name any behind_part xs f fails (λ named. starts_column_after_name named)
-    (λ named. spelled_column_after_name named)
-
-pub column_part_kind_failed : (xs after_name : List Token) (named : List ℕ) (f : Fault) →
-    Reads name any xs (read named after_name) →
-    Reads (one kind_of) any after_name (failed f) →
-    Reads column_part behind_part xs (failed f)
-unfolding column_part column_after_name column_after_kind column_after_rules column_part_made
-column_part_kind_failed xs after_name named f reads_name fails =
-    part_read name column_after_name any behind_part xs after_name named (failed f) reads_name
-    (λ named. starts_column_after_name named)
-    (reads_bind_failed (one kind_of) (column_after_kind named) any behind_part after_name f fails
-    (λ kind. starts_column_after_kind named kind) (λ kind. spelled_column_after_kind named kind))
-
-pub column_part_rules_failed : (xs after_name after_kind : List Token) (named : List ℕ) (kind : Kind) (f : Fault) →
-    Reads name any xs (read named after_name) →
-    Reads (one kind_of) any after_name (read kind after_kind) →
-    Reads (more next_rule []) behind_part after_kind (failed f) →
-    Reads column_part behind_part xs (failed f)
-unfolding column_part column_after_name column_after_kind column_after_rules column_part_made
-column_part_rules_failed xs after_name after_kind named kind f reads_name reads_kind fails =
-    part_read name column_after_name any behind_part xs after_name named (failed f) reads_name
-    (λ named. starts_column_after_name named)
-    (part_read (one kind_of) (column_after_kind named) any behind_part after_name after_kind kind (failed f) reads_kind
-    (λ kind. starts_column_after_kind named kind)
-    (reads_bind_failed (more next_rule []) (column_after_rules named kind) behind_part behind_part after_kind f fails
-    (λ rules. starts_column_after_rules named kind rules) (λ rules. spelled_column_after_rules named kind rules)))
-
-pub column_part_whole : (xs after_name after_kind rest : List Token) (named : List ℕ) (kind : Kind)
-    (rules : List ColumnRule) →
-    Reads name any xs (read named after_name) →
-    Reads (one kind_of) any after_name (read kind after_kind) →
-    Reads (more next_rule []) behind_part after_kind (read rules rest) →
-    Reads column_part behind_part xs (read (part_of.Column (record { name = named; kind = kind; rules = rules })) rest)
-unfolding column_part column_after_name column_after_kind column_after_rules column_part_made
-column_part_whole xs after_name after_kind rest named kind rules reads_name reads_kind reads_rules =
-    part_read name column_after_name any behind_part xs after_name named (read (column_part_made named kind rules) rest)
-    reads_name (λ named. starts_column_after_name named)
-    (part_read (one kind_of) (column_after_kind named) any behind_part after_name after_kind kind
-    (read (column_part_made named kind rules) rest) reads_kind (λ kind. starts_column_after_kind named kind)
-    (part_read (more next_rule []) (column_after_rules named kind) behind_part behind_part after_kind rest rules
-    (read (column_part_made named kind rules) rest) reads_rules (λ rules. starts_column_after_rules named kind rules)
-    (reads_gives (column_part_made named kind rules) (column_part_made named kind rules) behind_part rest refl)))
-
--- [CONSTRAINT name], and a constraint of the table
-constraint_part_made : (named : Option (List ℕ)) → (body : TableConstraint) → TablePart
-constraint_part_made named body = part_of.Constraint named body
-
-constraint_part_after_body : (named : Option (List ℕ)) → (body : TableConstraint) → Lang Token TablePart
-constraint_part_after_body named body = gives (constraint_part_made named body)
-
-spelled_constraint_part_after_body : (named : Option (List ℕ)) → (body : TableConstraint) →
-    Spelled (constraint_part_after_body named body)
-unfolding constraint_part_after_body
-spelled_constraint_part_after_body named body = spelled_gives (constraint_part_made named body)
-
-constraint_part_after_name : (named : Option (List ℕ)) → Lang Token TablePart
-constraint_part_after_name named =
-    bind (bind (one constraint_of) table_constraint_behind) (constraint_part_after_body named)
-
-spelled_constraint_part_after_name : (named : Option (List ℕ)) → Spelled (constraint_part_after_name named)
-unfolding constraint_part_after_name
-spelled_constraint_part_after_name named =
-    spelled_bind (bind (one constraint_of) table_constraint_behind) (constraint_part_after_body named) spelled_by_word
-    (λ body. spelled_constraint_part_after_body named body)
-
-starts_constraint_part_after_name : (named : Option (List ℕ)) →
-    Starts behind_constraint_name (constraint_part_after_name named) any
-unfolding constraint_part_after_name constraint_part_after_body constraint_part_made
-starts_constraint_part_after_name named =
-    starts_bind behind_constraint_name any any (bind (one constraint_of) table_constraint_behind)
-    (constraint_part_after_body named)
-    (starts_by_word behind_constraint_name any primary_behind_constraint_name unique_behind_constraint_name
-    check_behind_constraint_name) (λ body. starts_any (constraint_part_after_body named body) any)
-
-starts_constraint_part_after_body : (named : Option (List ℕ)) → (body : TableConstraint) →
-    Starts any (constraint_part_after_body named body) any
-unfolding constraint_part_after_name constraint_part_after_body constraint_part_made
-starts_constraint_part_after_body named body = starts_any (constraint_part_after_body named body) any
-
-pub constraint_part_name_failed : (xs : List Token) (f : Fault) →
-    Reads (optional (word k.Constraint name)) behind_constraint_name xs (failed f) →
-    Reads constraint_part any xs (failed f)
-unfolding constraint_part constraint_part_after_name constraint_part_after_body constraint_part_made
-constraint_part_name_failed xs f fails =
-    reads_bind_failed (optional (word k.Constraint name)) constraint_part_after_name behind_constraint_name any xs f
-    fails (λ named. starts_constraint_part_after_name named) (λ named. spelled_constraint_part_after_name named)
-
-pub constraint_part_body_failed : (xs after_name : List Token) (named : Option (List ℕ)) (f : Fault) →
-    Reads (optional (word k.Constraint name)) behind_constraint_name xs (read named after_name) →
-    Reads (bind (one constraint_of) table_constraint_behind) any after_name (failed f) →
-    Reads constraint_part any xs (failed f)
-unfolding constraint_part constraint_part_after_name constraint_part_after_body constraint_part_made
-constraint_part_body_failed xs after_name named f reads_name fails =
-    part_read (optional (word k.Constraint name)) constraint_part_after_name behind_constraint_name any xs after_name
-    named (failed f) reads_name (λ named. starts_constraint_part_after_name named)
-    (reads_bind_failed (bind (one constraint_of) table_constraint_behind) (constraint_part_after_body named) any any
-    after_name f fails (λ body. starts_constraint_part_after_body named body)
-    (λ body. spelled_constraint_part_after_body named body))
-
-pub constraint_part_whole : (xs after_name rest : List Token) (named : Option (List ℕ)) (body : TableConstraint) →
-    Reads (optional (word k.Constraint name)) behind_constraint_name xs (read named after_name) →
-    Reads (bind (one constraint_of) table_constraint_behind) any after_name (read body rest) →
-    Reads constraint_part any xs (read (part_of.Constraint named body) rest)
-unfolding constraint_part constraint_part_after_name constraint_part_after_body constraint_part_made
-constraint_part_whole xs after_name rest named body reads_name reads_body =
-    part_read (optional (word k.Constraint name)) constraint_part_after_name behind_constraint_name any xs after_name
-    named (read (part_of.Constraint named body) rest) reads_name (λ named. starts_constraint_part_after_name named)
-    (part_read (bind (one constraint_of) table_constraint_behind) (constraint_part_after_body named) any any after_name
-    rest body (read (part_of.Constraint named body) rest) reads_body
-    (λ body. starts_constraint_part_after_body named body)
-    (reads_gives (constraint_part_made named body) (constraint_part_made named body) any rest refl))
+constraint_after_name : Option (List ℕ) → Lang Token TablePart
+constraint_after_name n =
+    bind (bind (one constraint_of) table_constraint_behind) (λ c. gives (part_of.Constraint n c))
 
 starts_constraint_part : Starts begins_constraint constraint_part any
-unfolding constraint_part constraint_part_after_name constraint_part_after_body constraint_part_made begins_constraint
+unfolding constraint_part constraint_after_name begins_constraint
 starts_constraint_part =
-    starts_bind begins_constraint begins_constraint any (optional (word k.Constraint name)) constraint_part_after_name
+    starts_bind begins_constraint begins_constraint any (optional (word k.Constraint name)) constraint_after_name
     (starts_optional (t.Keyword k.Constraint) name begins_constraint refl)
     (λ n. starts_bind begins_constraint any any (bind (one constraint_of) table_constraint_behind)
-    (constraint_part_after_body n) (starts_by_word begins_constraint any refl refl refl)
-    (λ c. starts_any (constraint_part_after_body n c) any))
+    (λ c. gives (part_of.Constraint n c)) (starts_by_word begins_constraint any refl refl refl)
+    (λ c. starts_any (gives (part_of.Constraint n c)) any))
 
 no_name_begins : (u : Token) (x : List ℕ) → begins_constraint (Some u) ≡ true → name_of u ≡ Some x → ⊥
 unfolding begins_constraint name_of may_be_name
@@ -378,9 +218,9 @@ no_name_begins (t.Keyword k.Unique) x h e = let o : None ≡ Some x = e in cc o
 no_name_begins (t.Keyword k.Check) x h e = let o : None ≡ Some x = e in cc o
 no_name_begins _ x h e = false≢true h
 
-part_constraint : (xs : List Token) (o : Seen Token TablePart) → true ≡ begins_constraint (next xs) →
+pub part_constraint : (xs : List Token) (o : Seen Token TablePart) → true ≡ begins_constraint (next xs) →
     Reads constraint_part any xs o → Reads part behind_part xs o
-unfolding part column_part column_after_name column_after_kind column_after_rules column_part_made name
+unfolding part column_part column_after_name name
 part_constraint xs o h r =
     (leads_right (bind (one name_of) column_after_name) constraint_part behind_part xs
     (bars_bind any behind_part (one name_of) column_after_name 1 xs
@@ -392,26 +232,10 @@ any_bars : {V : Type 0} (L : Lang Token V) (g : Option Token → Bool) (j : ℕ)
     Bars L g j xs
 any_bars L g j xs b = record { bars = λ m w v z e l c. b.bars m w v z e l refl }
 
-part_column : (xs : List Token) (o : Seen Token TablePart) → false ≡ begins_constraint (next xs) →
+pub part_column : (xs : List Token) (o : Seen Token TablePart) → false ≡ begins_constraint (next xs) →
     Reads column_part behind_part xs o → Reads part behind_part xs o
 unfolding part
 part_column xs o h r =
     (leads_left column_part constraint_part behind_part xs
     (any_bars constraint_part behind_part 1 xs
     (bars_from begins_constraint any constraint_part 0 xs starts_constraint_part (sym h)))).to o r
-
-pub part_constraint_read : (xs ys : List Token) (v : TablePart) → true ≡ begins_constraint (next xs) →
-    Reads constraint_part any xs (read v ys) → Reads part behind_part xs (read v ys)
-part_constraint_read xs ys v h r = part_constraint xs (read v ys) h r
-
-pub part_constraint_failed : (xs : List Token) (f : Fault) → true ≡ begins_constraint (next xs) →
-    Reads constraint_part any xs (failed f) → Reads part behind_part xs (failed f)
-part_constraint_failed xs f h r = part_constraint xs (failed f) h r
-
-pub part_column_read : (xs ys : List Token) (v : TablePart) → false ≡ begins_constraint (next xs) →
-    Reads column_part behind_part xs (read v ys) → Reads part behind_part xs (read v ys)
-part_column_read xs ys v h r = part_column xs (read v ys) h r
-
-pub part_column_failed : (xs : List Token) (f : Fault) → false ≡ begins_constraint (next xs) →
-    Reads column_part behind_part xs (failed f) → Reads part behind_part xs (failed f)
-part_column_failed xs f h r = part_column xs (failed f) h r

@@ -2,8 +2,8 @@
 use Rattle.std.proofs.Common.{◌∷◌, ℕ, []}
 use Rattle.pg_grammar.specs.Languages.{more}
 use Rattle.pg_grammar.proofs.Words.{Spelled, spelled_bind, spelled_more}
-use Rattle.pg_parse_stmt.specs.Grammar.{SourceRule, table_source, one_source, alone, next_source, from_of}
-use Rattle.pg_parse_stmt.specs.Spellings.{spelled_table_source}
+use Rattle.pg_parse_stmt.specs.Grammar.{SourceRule, table_source, one_source, alone, next_source, from_of, from, source, sources_of}
+use Rattle.pg_parse_stmt.specs.Spellings.{spelled_table_source, spelled_source}
 use Rattle.pg_parse_stmt.proofs.Froms.{spelled_alone}
 
 pub spelled_from : {S : Type 0} (source : SourceRule S) (count : S → ℕ) (n : ℕ) → Spelled (source n) →
@@ -15,3 +15,7 @@ spelled_from source count n a =
 
 pub spelled_tables : (n : ℕ) → Spelled (from_of table_source one_source n)
 spelled_tables n = spelled_from table_source one_source n (spelled_table_source n)
+
+pub spelled_sources : Spelled from
+unfolding from
+spelled_sources = spelled_from source sources_of 0 (spelled_source 0)

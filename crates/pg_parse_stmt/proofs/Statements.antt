@@ -1,11 +1,10 @@
 -- A statement by its first word, and one on a line of its own.
-use Rattle.std.proofs.Common.{◌≡◌, ◌∷◌, ℕ, true, false, List, length, Option, Some, None, Err, Result, refl, sym, ap, ◌∙◌, subst}
+use Rattle.std.proofs.Common.{◌≡◌, ◌∷◌, ℕ, true, false, List, Option, Some, None, Err, Result, refl, sym, ap, ◌∙◌, subst}
 use Rattle.std.specs.Prelude.{not}
 use Rattle.pg_grammar.specs.declared.fault.Fault.{Fault}
-use Rattle.pg_grammar.specs.declared.fault.Fault.TheVariants.{Syntax}
 use Rattle.pg_grammar.specs.Languages.{Lang, gives, one, bind, either}
 use Rattle.pg_grammar.specs.Answers.{next, Misses, Seen, read, failed, Reads, ReadsWhole, ends, whole_of}
-use Rattle.pg_grammar.proofs.Words.{Starts, Spelled, starts_gives, starts_token, starts_either, spelled_gives, spelled_token, spelled_bind, spelled_left, bars_token, bars_gives, bars_either}
+use Rattle.pg_grammar.proofs.Words.{Starts, Spelled, starts_gives, starts_token, starts_either, spelled_gives, spelled_bind, spelled_left, bars_token, bars_gives, bars_either}
 use Rattle.pg_grammar.proofs.Combining.{reads_gives, reads_bind_failed, leads_left, leads_right}
 use Rattle.pg_grammar.proofs.Leading.{reads_narrow}
 use Rattle.pg_grammar.proofs.Sentences.{reads_whole}
@@ -29,12 +28,9 @@ use Rattle.pg_parse_stmt.specs.declared.tree.Merge.{Merge}
 use Rattle.pg_parse_stmt.specs.declared.tree.StmtTree.{StmtTree}
 use Rattle.pg_parse_stmt.specs.declared.tree.StmtTree.TheVariants as stmt
 use Rattle.pg_parse_stmt.proofs.Lists.{starts_any, and_left}
-use Rattle.pg_parse_stmt.proofs.Steps.{word_read, word_missed, part_read, or_read, or_none}
-use Rattle.pg_parse_stmt.proofs.Selects.{spelled_select}
-use Rattle.pg_parse_stmt.proofs.Inserts.{spelled_insert}
-use Rattle.pg_parse_stmt.proofs.Updates.{spelled_update, spelled_delete}
-use Rattle.pg_parse_stmt.proofs.Merges.{spelled_merge}
-use Rattle.pg_parse_stmt.proofs.Creates.{spelled_create_table}
+use Rattle.pg_parse_stmt.proofs.Steps.{word_read, part_read, or_read, or_none}
+use Rattle.pg_parse_stmt.proofs.StatementRules.{spelled_select, spelled_update, spelled_delete, spelled_merge, spelled_create_table}
+use Rattle.pg_parse_stmt.proofs.InsertRules.{spelled_insert}
 
 -- [WORK | TRANSACTION]
 work_word : StmtTree → Lang Token StmtTree
@@ -92,58 +88,6 @@ neither_read x xs a b =
     (bars_token behind_transaction (t.Keyword k.Transaction) (gives x) 0 xs (λ n. b.misses n)))).to (read x xs)
     (reads_gives x x behind_transaction xs refl)
 
--- LEVEL READ COMMITTED
-committed_word : StmtTree → Lang Token StmtTree
-committed_word x = word k.Committed (gives x)
-
-read_word : StmtTree → Lang Token StmtTree
-read_word x = word k.Read (committed_word x)
-
-spelled_committed_word : (x : StmtTree) → Spelled (committed_word x)
-unfolding committed_word
-spelled_committed_word x = spelled_token (t.Keyword k.Committed) (gives x) (spelled_gives x)
-
-spelled_read_word : (x : StmtTree) → Spelled (read_word x)
-unfolding read_word
-spelled_read_word x = spelled_token (t.Keyword k.Read) (committed_word x) (spelled_committed_word x)
-
-pub committed_no_level : (x : StmtTree) (xs : List Token) (l : ℕ) → Misses (t.Keyword k.Level) xs → l ≡ length xs →
-    Reads (committed x) any xs (failed (Syntax l))
-unfolding committed read_word committed_word
-committed_no_level x xs l miss q = word_missed (t.Keyword k.Level) (read_word x) any xs l miss q (spelled_read_word x)
-
-pub committed_no_read : (x : StmtTree) (xs after_level : List Token) (l : ℕ) → xs ≡ t.Keyword k.Level ∷ after_level →
-    Misses (t.Keyword k.Read) after_level →
-    l ≡ length after_level → Reads (committed x) any xs (failed (Syntax l))
-unfolding committed read_word committed_word
-committed_no_read x xs after_level l at_level miss q =
-    word_read (t.Keyword k.Level) (read_word x) any xs after_level (failed (Syntax l)) at_level
-    (word_missed (t.Keyword k.Read) (committed_word x) any after_level l miss q (spelled_committed_word x))
-
-pub committed_no_word : (x : StmtTree) (xs after_level after_read : List Token) (l : ℕ) →
-    xs ≡ t.Keyword k.Level ∷ after_level →
-    after_level ≡ t.Keyword k.Read ∷ after_read →
-    Misses (t.Keyword k.Committed) after_read →
-    l ≡ length after_read →
-    Reads (committed x) any xs (failed (Syntax l))
-unfolding committed read_word committed_word
-committed_no_word x xs after_level after_read l at_level at_read miss q =
-    word_read (t.Keyword k.Level) (read_word x) any xs after_level (failed (Syntax l)) at_level
-    (word_read (t.Keyword k.Read) (committed_word x) any after_level after_read (failed (Syntax l)) at_read
-    (word_missed (t.Keyword k.Committed) (gives x) any after_read l miss q (spelled_gives x)))
-
-pub committed_whole : (x : StmtTree) (xs after_level after_read rest : List Token) →
-    xs ≡ t.Keyword k.Level ∷ after_level →
-    after_level ≡ t.Keyword k.Read ∷ after_read →
-    after_read ≡ t.Keyword k.Committed ∷ rest →
-    Reads (committed x) any xs (read x rest)
-unfolding committed read_word committed_word
-committed_whole x xs after_level after_read rest at_level at_read at_committed =
-    word_read (t.Keyword k.Level) (read_word x) any xs after_level (read x rest) at_level
-    (word_read (t.Keyword k.Read) (committed_word x) any after_level after_read (read x rest) at_read
-    (word_read (t.Keyword k.Committed) (gives x) any after_read rest (read x rest) at_committed
-    (reads_gives x x any rest refl)))
-
 -- [ISOLATION LEVEL READ COMMITTED]
 isolation_goes_on : behind_begin (Some (t.Keyword k.Isolation)) ≡ false
 unfolding behind_begin behind_transaction is_word spelling
@@ -158,21 +102,12 @@ unfolding behind_begin
 begin_below o e = and_left (behind_transaction o) (not (is_word k.Isolation o)) e
 
 -- any token may stand behind COMMITTED, so those behind the whole may
-isolation_on : (x : StmtTree) (xs ys : List Token) (o : Seen Token StmtTree) → xs ≡ t.Keyword k.Isolation ∷ ys →
+pub isolation_on : (x : StmtTree) (xs ys : List Token) (o : Seen Token StmtTree) → xs ≡ t.Keyword k.Isolation ∷ ys →
     Reads (committed x) any ys o → Reads (isolation x) behind_begin xs o
 unfolding isolation
 isolation_on x xs ys o e r =
     or_read x (t.Keyword k.Isolation) (committed x) behind_begin xs ys o isolation_goes_on e
     (reads_narrow (committed x) any behind_begin ys o (λ q h. refl) r)
-
-pub isolation_read : (x v : StmtTree) (xs ys zs : List Token) → xs ≡ t.Keyword k.Isolation ∷ ys →
-    Reads (committed x) any ys (read v zs) →
-    Reads (isolation x) behind_begin xs (read v zs)
-isolation_read x v xs ys zs e r = isolation_on x xs ys (read v zs) e r
-
-pub isolation_failed : (x : StmtTree) (xs ys : List Token) (f : Fault) → xs ≡ t.Keyword k.Isolation ∷ ys →
-    Reads (committed x) any ys (failed f) → Reads (isolation x) behind_begin xs (failed f)
-isolation_failed x xs ys f e r = isolation_on x xs ys (failed f) e r
 
 pub isolation_none : (x : StmtTree) (xs : List Token) → Misses (t.Keyword k.Isolation) xs →
     Reads (isolation x) behind_begin xs (read x xs)
@@ -191,22 +126,12 @@ starts_isolation x =
     (starts_gives behind_transaction behind_begin x begin_below)
 
 -- [WORK | TRANSACTION] [ISOLATION LEVEL READ COMMITTED]
-begin_on : (v : StmtTree) (xs ys : List Token) (o : Seen Token StmtTree) →
+pub begin_on : (v : StmtTree) (xs ys : List Token) (o : Seen Token StmtTree) →
     Reads (transaction stmt.Begin) behind_transaction xs (read v ys) → Reads (isolation v) behind_begin ys o →
     Reads begin behind_begin xs o
 unfolding begin
 begin_on v xs ys o r q =
     part_read (transaction stmt.Begin) isolation behind_transaction behind_begin xs ys v o r starts_isolation q
-
-pub begin_read : (v w : StmtTree) (xs ys zs : List Token) →
-    Reads (transaction stmt.Begin) behind_transaction xs (read v ys) →
-    Reads (isolation v) behind_begin ys (read w zs) → Reads begin behind_begin xs (read w zs)
-begin_read v w xs ys zs r q = begin_on v xs ys (read w zs) r q
-
-pub begin_not_read : (v : StmtTree) (xs ys : List Token) (f : Fault) →
-    Reads (transaction stmt.Begin) behind_transaction xs (read v ys) →
-    Reads (isolation v) behind_begin ys (failed f) → Reads begin behind_begin xs (failed f)
-begin_not_read v xs ys f r q = begin_on v xs ys (failed f) r q
 
 pub begin_failed : (xs : List Token) (f : Fault) → Reads (transaction stmt.Begin) behind_transaction xs (failed f) →
     Reads begin behind_begin xs (failed f)
@@ -293,7 +218,7 @@ pub merge_failed : (xs : List Token) (f : Fault) → Reads merge behind_statemen
 merge_failed xs f r = form_failed merge stmt.Merge xs f r
 
 -- CREATE
-table_on : (xs ys : List Token) (o : Seen Token StmtTree) → xs ≡ t.Keyword k.Table ∷ ys →
+pub table_on : (xs ys : List Token) (o : Seen Token StmtTree) → xs ≡ t.Keyword k.Table ∷ ys →
     Reads create_table behind_statement xs o →
     Reads (either create_table create_index) behind_statement xs o
 unfolding create_index
@@ -301,33 +226,13 @@ table_on xs ys o e r =
     (leads_left create_table _ behind_statement xs (bars_token behind_statement (t.Keyword k.Unique) _ 0 xs
     (λ n. cc (e, n)))).to o r
 
-index_on : (xs : List Token) (o : Seen Token StmtTree) → Misses (t.Keyword k.Table) xs →
+pub index_on : (xs : List Token) (o : Seen Token StmtTree) → Misses (t.Keyword k.Table) xs →
     Reads create_index behind_statement xs o →
     Reads (either create_table create_index) behind_statement xs o
 unfolding create_table
 index_on xs o miss r =
     (leads_right _ create_index behind_statement xs (bars_token behind_statement (t.Keyword k.Table) _ 0 xs
     (λ n. miss.misses n))).to o r
-
-pub create_table_read : (v : StmtTree) (xs ys zs : List Token) → xs ≡ t.Keyword k.Table ∷ ys →
-    Reads create_table behind_statement xs (read v zs) → Reads (either create_table create_index) behind_statement xs
-    (read v zs)
-create_table_read v xs ys zs e r = table_on xs ys (read v zs) e r
-
-pub create_table_failed : (xs ys : List Token) (f : Fault) → xs ≡ t.Keyword k.Table ∷ ys →
-    Reads create_table behind_statement xs (failed f) → Reads (either create_table create_index) behind_statement xs
-    (failed f)
-create_table_failed xs ys f e r = table_on xs ys (failed f) e r
-
-pub create_index_read : (v : StmtTree) (xs zs : List Token) → Misses (t.Keyword k.Table) xs →
-    Reads create_index behind_statement xs (read v zs) → Reads (either create_table create_index) behind_statement xs
-    (read v zs)
-create_index_read v xs zs miss r = index_on xs (read v zs) miss r
-
-pub create_index_failed : (xs : List Token) (f : Fault) → Misses (t.Keyword k.Table) xs →
-    Reads create_index behind_statement xs (failed f) → Reads (either create_table create_index) behind_statement xs
-    (failed f)
-create_index_failed xs f miss r = index_on xs (failed f) miss r
 
 -- behind the first word
 behind_all : (o : Option Token) → behind_statement o ≡ true → behind_begin o ≡ true
@@ -399,25 +304,13 @@ spelled_statement_behind version lead.Merge = spelled_of_form merge stmt.Merge s
 spelled_statement_behind version lead.Create = spelled_left create_table create_index spelled_create_table
 
 -- a statement
-statement_on : (version : ℕ) (w : Lead) (xs ys : List Token) (o : Seen Token StmtTree) →
+pub statement_on : (version : ℕ) (w : Lead) (xs ys : List Token) (o : Seen Token StmtTree) →
     Reads (one lead_of) any xs (read w ys) →
     Reads (statement_behind version w) behind_statement ys o → Reads (statement version) behind_statement xs o
 unfolding statement
 statement_on version w xs ys o r q =
     part_read (one lead_of) (statement_behind version) any behind_statement xs ys w o r
     (λ u. starts_any (statement_behind version u) behind_statement) q
-
-pub statement_read : (version : ℕ) (w : Lead) (v : StmtTree) (xs ys zs : List Token) →
-    Reads (one lead_of) any xs (read w ys) →
-    Reads (statement_behind version w) behind_statement ys (read v zs) → Reads (statement version) behind_statement xs
-    (read v zs)
-statement_read version w v xs ys zs r q = statement_on version w xs ys (read v zs) r q
-
-pub statement_not_read : (version : ℕ) (w : Lead) (xs ys : List Token) (f : Fault) →
-    Reads (one lead_of) any xs (read w ys) →
-    Reads (statement_behind version w) behind_statement ys (failed f) → Reads (statement version) behind_statement xs
-    (failed f)
-statement_not_read version w xs ys f r q = statement_on version w xs ys (failed f) r q
 
 pub statement_failed : (version : ℕ) (xs : List Token) (f : Fault) → Reads (one lead_of) any xs (failed f) →
     Reads (statement version) behind_statement xs (failed f)

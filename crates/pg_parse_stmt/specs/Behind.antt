@@ -63,10 +63,6 @@ behind_item t = behind_expr t && behind_as t
 unfoldable pub behind_items : Option Token → Bool
 behind_items = behind_list behind_item
 
--- behind [RETURNING items]
-unfoldable pub behind_returning : Option Token → Bool
-behind_returning t = behind_items t && not (is_word k.Returning t)
-
 unfoldable pub behind_sets : Option Token → Bool
 behind_sets = behind_list behind_expr
 
@@ -79,13 +75,6 @@ behind_joined t = behind_table t && behind_expr t
 
 unfoldable pub behind_from : Option Token → Bool
 behind_from t = behind_joined t && not (has link_of t)
-
--- behind [FROM from] and behind [USING from]
-unfoldable pub behind_from_list : Option Token → Bool
-behind_from_list t = behind_from t && not (is_word k.From t)
-
-unfoldable pub behind_using_list : Option Token → Bool
-behind_using_list t = behind_from t && not (is_word k.Using t)
 
 -- behind a subselect: what closes it, what goes on with an INSERT, or what ends the statement
 unfoldable pub behind_subselect : Option Token → Bool
@@ -104,9 +93,6 @@ behind_nulls t = not (is_word k.Nulls t)
 
 unfoldable pub behind_order_key : Option Token → Bool
 behind_order_key t = behind_expr t && behind_direction t && behind_nulls t
-
-unfoldable pub behind_order : Option Token → Bool
-behind_order t = behind_list behind_order_key t && not (is_word k.Order t)
 
 unfoldable pub behind_limit : Option Token → Bool
 behind_limit t = not (is_word k.Limit t)
@@ -140,9 +126,6 @@ behind_on_conflict t = behind_conflict t && not (is_word k.On t)
 -- behind [AND expr]
 unfoldable pub behind_guard : Option Token → Bool
 behind_guard t = behind_expr t && not (is_word k.And t)
-
-unfoldable pub behind_whens : Option Token → Bool
-behind_whens t = behind_sets t && not (is_word k.When t)
 
 -- behind [CONSTRAINT name]
 unfoldable pub behind_constraint_name : Option Token → Bool

@@ -3,6 +3,7 @@ pub mod Words
 pub mod Forms
 pub mod Grammar
 pub mod Behind
+pub mod Ranks
 pub mod Expected
 pub mod Spellings
 pub mod After

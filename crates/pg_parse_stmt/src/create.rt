@@ -64,15 +64,12 @@ fn negative(tokens: &[Token]) -> Read<'_, Value>
 }
 
 /// A literal, or a minus sign and an integer, behind DEFAULT.
-#[tactic(auto, using(crate::proofs::Parts::default_read, crate::proofs::Parts::no_default, crate::proofs::Parts::no_default_at_end, crate::proofs::Parts::default_minus_read, crate::proofs::Parts::default_minus_failed))]
+#[tactic(auto, using(crate::proofs::Parts::default_read, crate::proofs::Parts::no_default, crate::proofs::Parts::no_default_at_end, crate::proofs::Parts::default_minus))]
 fn default<'a>(alloc: Global, tokens: &'a [Token]) -> Read<'a, Value>
     ensures { Reads default any tokens.now (seen result) }
 {
     match accept_sign(tokens, Sign::Minus) {
-        Some(rest) => match negative(rest) {
-            Ok(part) => Ok(part),
-            Err(fault) => Err(fault),
-        },
+        Some(rest) => negative(rest),
         None => match tokens.split_first() {
             Some((first, rest)) => match value_of(alloc, first)? {
                 Some(value) => Ok(Part { value, rest }),
@@ -134,26 +131,16 @@ fn named_constraint<'a>(
 }
 
 /// A column's constraint behind CONSTRAINT.
-#[tactic(auto, using(crate::proofs::Constraints::rule_no_name, crate::proofs::Constraints::rule_no_word, crate::proofs::Constraints::rule_no_constraint, crate::proofs::Constraints::rule_named))]
 fn constraint_behind_name<'a>(alloc: Global, tokens: &'a [Token]) -> Read<'a, ColumnRule>
     ensures { Reads (column_rule_behind Named) any tokens.now (seen result) }
 {
-    let name = match name(alloc, tokens) {
-        Ok(part) => part,
-        Err(fault) => return Err(fault),
-    };
-    let word = match expect::<ConstraintWord>(name.rest) {
-        Ok(part) => part,
-        Err(fault) => return Err(fault),
-    };
-    match named_constraint(alloc, word.rest, Some(name.value), word.value) {
-        Ok(part) => Ok(part),
-        Err(fault) => Err(fault),
-    }
+    let name = name(alloc, tokens)?;
+    let word = expect::<ConstraintWord>(name.rest)?;
+    named_constraint(alloc, word.rest, Some(name.value), word.value)
 }
 
 /// What may stand behind a column's kind, behind its first word.
-#[tactic(auto, using(crate::proofs::Constraints::rule_not_null, crate::proofs::Constraints::rule_no_null, crate::proofs::Constraints::rule_default_read, crate::proofs::Constraints::rule_default_failed, crate::proofs::Constraints::rule_unnamed_read, crate::proofs::Constraints::rule_unnamed_failed))]
+#[tactic(auto, using(crate::proofs::Constraints::rule_not_null, crate::proofs::Constraints::rule_no_null, crate::proofs::Constraints::rule_default_read, crate::proofs::Constraints::rule_default_failed, crate::proofs::Constraints::rule_unnamed))]
 fn column_rule<'a>(alloc: Global, tokens: &'a [Token], word: RuleWord) -> Read<'a, ColumnRule>
     ensures { Reads (column_rule_behind word) any tokens.now (seen result) }
 {
@@ -173,10 +160,7 @@ fn column_rule<'a>(alloc: Global, tokens: &'a [Token], word: RuleWord) -> Read<'
             Err(fault) => Err(fault),
         },
         RuleWord::Named => constraint_behind_name(alloc, tokens),
-        RuleWord::Unnamed(word) => match named_constraint(alloc, tokens, None, word) {
-            Ok(part) => Ok(part),
-            Err(fault) => Err(fault),
-        },
+        RuleWord::Unnamed(word) => named_constraint(alloc, tokens, None, word),
     }
 }
 
@@ -200,29 +184,20 @@ fn column_rules<'a>(alloc: Global, tokens: &'a [Token]) -> Read<'a, Items<Column
 }
 
 /// `name kind {rule}`
-#[tactic(auto, using(crate::proofs::Parts::column_part_name_failed, crate::proofs::Parts::column_part_kind_failed, crate::proofs::Parts::column_part_rules_failed, crate::proofs::Parts::column_part_whole))]
 fn column_part<'a>(alloc: Global, tokens: &'a [Token]) -> Read<'a, TablePart>
     ensures { Reads column_part behind_part tokens.now (seen result) }
 {
-    let name = match name(alloc, tokens) {
-        Ok(part) => part,
-        Err(fault) => return Err(fault),
-    };
-    let kind = match expect::<Kind>(name.rest) {
-        Ok(part) => part,
-        Err(fault) => return Err(fault),
-    };
-    match column_rules(alloc, kind.rest) {
-        Ok(Part { value: rules, rest }) => Ok(Part {
-            value: TablePart::Column(ColumnPart {
-                name: name.value,
-                kind: kind.value,
-                rules,
-            }),
-            rest,
+    let name = name(alloc, tokens)?;
+    let kind = expect::<Kind>(name.rest)?;
+    let Part { value: rules, rest } = column_rules(alloc, kind.rest)?;
+    Ok(Part {
+        value: TablePart::Column(ColumnPart {
+            name: name.value,
+            kind: kind.value,
+            rules,
         }),
-        Err(fault) => Err(fault),
-    }
+        rest,
+    })
 }
 
 /// `(PRIMARY KEY | UNIQUE) "(" names ")" | CHECK "(" expr ")"`, behind its first word.
@@ -282,21 +257,15 @@ fn unnamed_constraint<'a>(alloc: Global, tokens: &'a [Token]) -> Read<'a, TableC
 }
 
 /// `[CONSTRAINT name] constraint`
-#[tactic(auto, using(crate::proofs::Parts::constraint_part_name_failed, crate::proofs::Parts::constraint_part_body_failed, crate::proofs::Parts::constraint_part_whole))]
 fn constraint_part<'a>(alloc: Global, tokens: &'a [Token]) -> Read<'a, TablePart>
     ensures { Reads constraint_part any tokens.now (seen result) }
 {
-    let name = match constraint_name(alloc, tokens) {
-        Ok(part) => part,
-        Err(fault) => return Err(fault),
-    };
-    match unnamed_constraint(alloc, name.rest) {
-        Ok(Part { value, rest }) => Ok(Part {
-            value: TablePart::Constraint(name.value, value),
-            rest,
-        }),
-        Err(fault) => Err(fault),
-    }
+    let name = constraint_name(alloc, tokens)?;
+    let Part { value, rest } = unnamed_constraint(alloc, name.rest)?;
+    Ok(Part {
+        value: TablePart::Constraint(name.value, value),
+        rest,
+    })
 }
 
 /// Whether a constraint begins here, and not a column.
@@ -324,18 +293,12 @@ impl Listed for TablePart {
 
     ghost follows = { behind_part };
 
-    #[tactic(auto, using(crate::proofs::Parts::part_constraint_read, crate::proofs::Parts::part_constraint_failed, crate::proofs::Parts::part_column_read, crate::proofs::Parts::part_column_failed))]
+    #[tactic(auto, using(crate::proofs::Parts::part_constraint, crate::proofs::Parts::part_column))]
     fn read<'a>(alloc: Global, tokens: &'a [Token]) -> Read<'a, TablePart> {
         if begins_constraint(tokens) {
-            match constraint_part(alloc, tokens) {
-                Ok(part) => Ok(part),
-                Err(fault) => Err(fault),
-            }
+            constraint_part(alloc, tokens)
         } else {
-            match column_part(alloc, tokens) {
-                Ok(part) => Ok(part),
-                Err(fault) => Err(fault),
-            }
+            column_part(alloc, tokens)
         }
     }
 
@@ -347,71 +310,47 @@ impl Listed for TablePart {
 }
 
 /// `TABLE name "(" part {"," part} ")"`, behind CREATE.
-#[tactic(auto, using(crate::proofs::Creates::create_table_no_word, crate::proofs::Creates::create_table_name_failed, crate::proofs::Creates::create_table_parts_failed, crate::proofs::Creates::create_table_whole))]
 pub(crate) fn create_table<'a>(alloc: Global, tokens: &'a [Token]) -> Read<'a, StmtTree>
     ensures { Reads create_table behind_statement tokens.now (seen result) }
 {
-    let rest = match accept_word(tokens, Keyword::Table) {
-        Some(rest) => rest,
-        None => return Err(Fault::Syntax(tokens.len())),
+    let Some(rest) = accept_word(tokens, Keyword::Table) else {
+        return Err(Fault::Syntax(tokens.len()));
     };
-    let Part { value: name, rest } = match name(alloc, rest) {
-        Ok(part) => part,
-        Err(fault) => return Err(fault),
-    };
-    match list_in_brackets::<TablePart>(alloc, rest) {
-        Ok(Part { value: parts, rest }) => Ok(Part {
-            value: StmtTree::CreateTable(CreateTable { name, parts }),
-            rest,
-        }),
-        Err(fault) => Err(fault),
-    }
+    let Part { value: name, rest } = name(alloc, rest)?;
+    let Part { value: parts, rest } = list_in_brackets::<TablePart>(alloc, rest)?;
+    Ok(Part {
+        value: StmtTree::CreateTable(CreateTable { name, parts }),
+        rest,
+    })
 }
 
 /// `UNIQUE INDEX name ON name "(" element {"," element} ")" [WHERE expr]`, behind CREATE.
-#[tactic(auto, using(crate::proofs::Creates::create_index_no_unique, crate::proofs::Creates::create_index_no_index, crate::proofs::Creates::create_index_name_failed, crate::proofs::Creates::create_index_no_on, crate::proofs::Creates::create_index_table_failed, crate::proofs::Creates::create_index_elements_failed, crate::proofs::Creates::create_index_condition_failed, crate::proofs::Creates::create_index_whole), unfolding(crate::specs::Grammar::elements))]
 pub(crate) fn create_index<'a>(alloc: Global, tokens: &'a [Token]) -> Read<'a, StmtTree>
     ensures { Reads create_index behind_statement tokens.now (seen result) }
 {
-    let rest = match accept_word(tokens, Keyword::Unique) {
-        Some(rest) => rest,
-        None => return Err(Fault::Syntax(tokens.len())),
+    let Some(rest) = accept_word(tokens, Keyword::Unique) else {
+        return Err(Fault::Syntax(tokens.len()));
     };
-    let rest = match accept_word(rest, Keyword::Index) {
-        Some(rest) => rest,
-        None => return Err(Fault::Syntax(rest.len())),
+    let Some(rest) = accept_word(rest, Keyword::Index) else {
+        return Err(Fault::Syntax(rest.len()));
     };
-    let index = match name(alloc, rest) {
-        Ok(part) => part,
-        Err(fault) => return Err(fault),
+    let index = name(alloc, rest)?;
+    let Some(rest) = accept_word(index.rest, Keyword::On) else {
+        return Err(Fault::Syntax(index.rest.len()));
     };
-    let rest = match accept_word(index.rest, Keyword::On) {
-        Some(rest) => rest,
-        None => return Err(Fault::Syntax(index.rest.len())),
-    };
-    let table = match name(alloc, rest) {
-        Ok(part) => part,
-        Err(fault) => return Err(fault),
-    };
-    let elements = match list_in_brackets::<Element>(alloc, table.rest) {
-        Ok(part) => part,
-        Err(fault) => return Err(fault),
-    };
-    match condition(alloc, elements.rest) {
-        Ok(
-            Part {
-                value: predicate,
-                rest,
-            },
-        ) => Ok(Part {
-            value: StmtTree::CreateIndex(CreateIndex {
-                name: index.value,
-                table: table.value,
-                elements: elements.value,
-                predicate,
-            }),
-            rest,
+    let table = name(alloc, rest)?;
+    let elements = list_in_brackets::<Element>(alloc, table.rest)?;
+    let Part {
+        value: predicate,
+        rest,
+    } = condition(alloc, elements.rest)?;
+    Ok(Part {
+        value: StmtTree::CreateIndex(CreateIndex {
+            name: index.value,
+            table: table.value,
+            elements: elements.value,
+            predicate,
         }),
-        Err(fault) => Err(fault),
-    }
+        rest,
+    })
 }

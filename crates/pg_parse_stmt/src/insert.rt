@@ -29,26 +29,19 @@ impl Listed for Assignment {
 
     ghost follows = { behind_expr };
 
-    #[tactic(auto, using(crate::proofs::Assignments::assignment_column_failed, crate::proofs::Assignments::assignment_no_equal, crate::proofs::Assignments::assignment_value_failed, crate::proofs::Assignments::assignment_whole))]
     fn read<'a>(alloc: Global, tokens: &'a [Token]) -> Read<'a, Assignment> {
         let Part {
             value: column,
             rest,
-        } = match name(alloc, tokens) {
-            Ok(part) => part,
-            Err(fault) => return Err(fault),
+        } = name(alloc, tokens)?;
+        let Some(rest) = accept_sign(rest, Sign::Equal) else {
+            return Err(Fault::Syntax(rest.len()));
         };
-        let rest = match accept_sign(rest, Sign::Equal) {
-            Some(rest) => rest,
-            None => return Err(Fault::Syntax(rest.len())),
-        };
-        match expr(alloc, rest) {
-            Ok(Part { value, rest }) => Ok(Part {
-                value: Assignment { column, value },
-                rest,
-            }),
-            Err(fault) => Err(fault),
-        }
+        let Part { value, rest } = expr(alloc, rest)?;
+        Ok(Part {
+            value: Assignment { column, value },
+            rest,
+        })
     }
 
     ghost comma = { behind_expr_comma };
@@ -111,77 +104,59 @@ pub(crate) fn columns<'a>(alloc: Global, tokens: &'a [Token]) -> Read<'a, Names>
 }
 
 /// `VALUES tuple {"," tuple} | subselect`
-#[tactic(auto, using(crate::proofs::Inserts::rows_values_read, crate::proofs::Inserts::rows_values_failed, crate::proofs::Inserts::rows_query_read, crate::proofs::Inserts::rows_query_failed, crate::proofs::Inserts::rows_neither), unfolding(crate::specs::Grammar::tuples, crate::specs::Behind::behind_tuples))]
 fn rows<'a>(alloc: Global, tokens: &'a [Token]) -> Read<'a, Rows>
     ensures { Reads rows behind_rows tokens.now (seen result) }
 {
     if let Some(rest) = accept_word(tokens, Keyword::Values) {
-        return match list::<Tuple>(alloc, rest) {
-            Ok(Part { value, rest }) => Ok(Part {
-                value: Rows::Values(value),
-                rest,
-            }),
-            Err(fault) => Err(fault),
-        };
+        let Part { value, rest } = list::<Tuple>(alloc, rest)?;
+        return Ok(Part {
+            value: Rows::Values(value),
+            rest,
+        });
     }
-    match accept_word(tokens, Keyword::Select) {
-        Some(rest) => match subselect(alloc, rest, 0) {
-            Ok(Part { value, rest }) => Ok(Part {
-                value: Rows::Query(value),
-                rest,
-            }),
-            Err(fault) => Err(fault),
-        },
-        None => Err(Fault::Syntax(tokens.len())),
-    }
+    let Some(rest) = accept_word(tokens, Keyword::Select) else {
+        return Err(Fault::Syntax(tokens.len()));
+    };
+    let Part { value, rest } = subselect(alloc, rest, 0)?;
+    Ok(Part {
+        value: Rows::Query(value),
+        rest,
+    })
 }
 
 /// `"(" element {"," element} ")" [WHERE expr]`
-#[tactic(auto, using(crate::proofs::Inserts::target_list_elements_failed, crate::proofs::Inserts::target_list_condition_failed, crate::proofs::Inserts::target_list_whole), unfolding(crate::specs::Grammar::elements))]
 fn target_elements<'a>(alloc: Global, tokens: &'a [Token]) -> Read<'a, ConflictTarget>
     ensures { Reads target_elements behind_condition tokens.now (seen result) }
 {
     let Part {
         value: elements,
         rest,
-    } = match list_in_brackets::<Element>(alloc, tokens) {
-        Ok(part) => part,
-        Err(fault) => return Err(fault),
-    };
-    match condition(alloc, rest) {
-        Ok(
-            Part {
-                value: predicate,
-                rest,
-            },
-        ) => Ok(Part {
-            value: ConflictTarget::Elements(elements, predicate),
-            rest,
-        }),
-        Err(fault) => Err(fault),
-    }
+    } = list_in_brackets::<Element>(alloc, tokens)?;
+    let Part {
+        value: predicate,
+        rest,
+    } = condition(alloc, rest)?;
+    Ok(Part {
+        value: ConflictTarget::Elements(elements, predicate),
+        rest,
+    })
 }
 
 /// `ON CONSTRAINT name`
-#[tactic(auto, using(crate::proofs::Inserts::target_constraint_no_on, crate::proofs::Inserts::target_constraint_no_word, crate::proofs::Inserts::target_constraint_name_failed, crate::proofs::Inserts::target_constraint_whole))]
 fn target_constraint<'a>(alloc: Global, tokens: &'a [Token]) -> Read<'a, ConflictTarget>
     ensures { Reads target_constraint any tokens.now (seen result) }
 {
-    let rest = match accept_word(tokens, Keyword::On) {
-        Some(rest) => rest,
-        None => return Err(Fault::Syntax(tokens.len())),
+    let Some(rest) = accept_word(tokens, Keyword::On) else {
+        return Err(Fault::Syntax(tokens.len()));
     };
-    let rest = match accept_word(rest, Keyword::Constraint) {
-        Some(rest) => rest,
-        None => return Err(Fault::Syntax(rest.len())),
+    let Some(rest) = accept_word(rest, Keyword::Constraint) else {
+        return Err(Fault::Syntax(rest.len()));
     };
-    match name(alloc, rest) {
-        Ok(Part { value, rest }) => Ok(Part {
-            value: ConflictTarget::Constraint(value),
-            rest,
-        }),
-        Err(fault) => Err(fault),
-    }
+    let Part { value, rest } = name(alloc, rest)?;
+    Ok(Part {
+        value: ConflictTarget::Constraint(value),
+        rest,
+    })
 }
 
 /// `["(" element {"," element} ")" [WHERE expr] | ON CONSTRAINT name]`
@@ -214,42 +189,32 @@ fn conflict_target<'a>(alloc: Global, tokens: &'a [Token]) -> Read<'a, Option<Co
 }
 
 /// `UPDATE SET sets [WHERE expr]`, behind DO.
-#[tactic(auto, using(crate::proofs::Inserts::upsert_no_update, crate::proofs::Inserts::upsert_no_set, crate::proofs::Inserts::upsert_sets_failed, crate::proofs::Inserts::upsert_condition_failed, crate::proofs::Inserts::upsert_whole), unfolding(crate::specs::Grammar::sets, crate::specs::Behind::behind_sets))]
 fn upsert<'a>(alloc: Global, tokens: &'a [Token], target: ConflictTarget) -> Read<'a, Conflict>
     ensures { Reads (upsert target) behind_conflict tokens.now (seen result) }
 {
-    let rest = match accept_word(tokens, Keyword::Update) {
-        Some(rest) => rest,
-        None => return Err(Fault::Syntax(tokens.len())),
+    let Some(rest) = accept_word(tokens, Keyword::Update) else {
+        return Err(Fault::Syntax(tokens.len()));
     };
-    let rest = match accept_word(rest, Keyword::Set) {
-        Some(rest) => rest,
-        None => return Err(Fault::Syntax(rest.len())),
+    let Some(rest) = accept_word(rest, Keyword::Set) else {
+        return Err(Fault::Syntax(rest.len()));
     };
-    let sets = match list::<Assignment>(alloc, rest) {
-        Ok(part) => part,
-        Err(fault) => return Err(fault),
-    };
-    match condition(alloc, sets.rest) {
-        Ok(
-            Part {
-                value: condition,
-                rest,
-            },
-        ) => Ok(Part {
-            value: Conflict::Update(Upsert {
-                target,
-                sets: sets.value,
-                condition,
-            }),
-            rest,
+    let sets = list::<Assignment>(alloc, rest)?;
+    let Part {
+        value: condition,
+        rest,
+    } = condition(alloc, sets.rest)?;
+    Ok(Part {
+        value: Conflict::Update(Upsert {
+            target,
+            sets: sets.value,
+            condition,
         }),
-        Err(fault) => Err(fault),
-    }
+        rest,
+    })
 }
 
 /// `NOTHING`, or with a target `UPDATE`, behind DO.
-#[tactic(auto, using(crate::proofs::Inserts::act_nothing_read, crate::proofs::Inserts::act_upsert_read, crate::proofs::Inserts::act_upsert_failed, crate::proofs::Inserts::act_refused))]
+#[tactic(auto, using(crate::proofs::Inserts::act_nothing_read, crate::proofs::Inserts::act_upsert_read, crate::proofs::Inserts::act_refused))]
 fn conflict_act<'a>(
     alloc: Global,
     tokens: &'a [Token],
@@ -264,95 +229,60 @@ fn conflict_act<'a>(
         });
     }
     match target {
-        Some(target) => match upsert(alloc, tokens, target) {
-            Ok(part) => Ok(part),
-            Err(fault) => Err(fault),
-        },
+        Some(target) => upsert(alloc, tokens, target),
         None => Err(Fault::Syntax(tokens.len())),
     }
 }
 
 /// `[ON CONFLICT [target] DO NOTHING | ON CONFLICT target DO UPDATE SET sets [WHERE expr]]`
-#[tactic(auto, using(crate::proofs::Inserts::conflict_none, crate::proofs::Inserts::conflict_no_word, crate::proofs::Inserts::conflict_no_target, crate::proofs::Inserts::conflict_no_do, crate::proofs::Inserts::conflict_no_act, crate::proofs::Inserts::conflict_read))]
 fn conflict<'a>(alloc: Global, tokens: &'a [Token]) -> Read<'a, Option<Conflict>>
     ensures { Reads (optional conflict) behind_on_conflict tokens.now (seen result) }
 {
-    let rest = match accept_word(tokens, Keyword::On) {
-        Some(rest) => rest,
-        None => {
-            return Ok(Part {
-                value: None,
-                rest: tokens,
-            });
-        }
+    let Some(rest) = accept_word(tokens, Keyword::On) else {
+        return Ok(Part {
+            value: None,
+            rest: tokens,
+        });
     };
-    let rest = match accept_word(rest, Keyword::Conflict) {
-        Some(rest) => rest,
-        None => return Err(Fault::Syntax(rest.len())),
+    let Some(rest) = accept_word(rest, Keyword::Conflict) else {
+        return Err(Fault::Syntax(rest.len()));
     };
-    let target = match conflict_target(alloc, rest) {
-        Ok(part) => part,
-        Err(fault) => return Err(fault),
+    let target = conflict_target(alloc, rest)?;
+    let Some(rest) = accept_word(target.rest, Keyword::Do) else {
+        return Err(Fault::Syntax(target.rest.len()));
     };
-    let rest = match accept_word(target.rest, Keyword::Do) {
-        Some(rest) => rest,
-        None => return Err(Fault::Syntax(target.rest.len())),
-    };
-    match conflict_act(alloc, rest, target.value) {
-        Ok(Part { value, rest }) => Ok(Part {
-            value: Some(value),
-            rest,
-        }),
-        Err(fault) => Err(fault),
-    }
+    let Part { value, rest } = conflict_act(alloc, rest, target.value)?;
+    Ok(Part {
+        value: Some(value),
+        rest,
+    })
 }
 
 /// `INTO name [AS name] ["(" names ")"] rows [conflict] [returning]`, behind INSERT.
-#[tactic(auto, using(crate::proofs::Inserts::insert_no_into, crate::proofs::Inserts::insert_table_failed, crate::proofs::Inserts::insert_alias_failed, crate::proofs::Inserts::insert_columns_failed, crate::proofs::Inserts::insert_rows_failed, crate::proofs::Inserts::insert_conflict_failed, crate::proofs::Inserts::insert_returning_failed, crate::proofs::Inserts::insert_whole))]
 pub(crate) fn insert<'a>(alloc: Global, tokens: &'a [Token]) -> Read<'a, Insert>
     ensures { Reads insert behind_statement tokens.now (seen result) }
 {
-    let rest = match accept_word(tokens, Keyword::Into) {
-        Some(rest) => rest,
-        None => return Err(Fault::Syntax(tokens.len())),
+    let Some(rest) = accept_word(tokens, Keyword::Into) else {
+        return Err(Fault::Syntax(tokens.len()));
     };
-    let table = match name(alloc, rest) {
-        Ok(part) => part,
-        Err(fault) => return Err(fault),
-    };
-    let alias = match as_name(alloc, table.rest) {
-        Ok(part) => part,
-        Err(fault) => return Err(fault),
-    };
-    let columns = match columns(alloc, alias.rest) {
-        Ok(part) => part,
-        Err(fault) => return Err(fault),
-    };
-    let rows = match rows(alloc, columns.rest) {
-        Ok(part) => part,
-        Err(fault) => return Err(fault),
-    };
-    let conflict = match conflict(alloc, rows.rest) {
-        Ok(part) => part,
-        Err(fault) => return Err(fault),
-    };
-    match returning(alloc, conflict.rest) {
-        Ok(
-            Part {
-                value: returning,
-                rest,
-            },
-        ) => Ok(Part {
-            value: Insert {
-                table: table.value,
-                alias: alias.value,
-                columns: columns.value,
-                rows: rows.value,
-                conflict: conflict.value,
-                returning,
-            },
-            rest,
-        }),
-        Err(fault) => Err(fault),
-    }
+    let table = name(alloc, rest)?;
+    let alias = as_name(alloc, table.rest)?;
+    let columns = columns(alloc, alias.rest)?;
+    let rows = rows(alloc, columns.rest)?;
+    let conflict = conflict(alloc, rows.rest)?;
+    let Part {
+        value: returning,
+        rest,
+    } = returning(alloc, conflict.rest)?;
+    Ok(Part {
+        value: Insert {
+            table: table.value,
+            alias: alias.value,
+            columns: columns.value,
+            rows: rows.value,
+            conflict: conflict.value,
+            returning,
+        },
+        rest,
+    })
 }

@@ -3,7 +3,8 @@ ghost use Rattle.pg_grammar.specs.Answers.{Reads};
 ghost use Rattle.pg_grammar.specs.Parts.{seen};
 ghost use Rattle.pg_lexer.specs.declared.keyword.Keyword.TheVariants.{And};
 ghost use Rattle.pg_parse_expr.specs.Grammar.{expr as expr_rule};
-ghost use Rattle.pg_parse_stmt.specs.Behind.{any, behind_guard, behind_sets, behind_whens, behind_statement};
+ghost use Rattle.pg_parse_stmt.specs.Ranks.{behind};
+ghost use Rattle.pg_parse_stmt.specs.Behind.{any, behind_guard, behind_sets, behind_statement};
 ghost use Rattle.pg_parse_stmt.specs.Forms.{word, optional};
 ghost use Rattle.pg_parse_stmt.specs.Grammar.{change_behind, change, addition_insert, addition_nothing, addition, then, by_whom, not_matched, when_behind, whens, merge};
 ghost use Rattle.pg_parse_stmt.specs.declared.tree.When.TheVariants.{Matched, NotBySource, NotByTarget};
@@ -52,43 +53,30 @@ fn change_behind<'a>(alloc: Global, tokens: &'a [Token], word: ChangeWord) -> Re
 }
 
 /// `UPDATE SET sets | DELETE | DO NOTHING`
-#[tactic(auto, using(crate::proofs::Merges::change_read, crate::proofs::Merges::change_not_read, crate::proofs::Merges::change_failed))]
+#[tactic(auto, using(crate::proofs::Merges::change_read, crate::proofs::Merges::change_failed))]
 fn change<'a>(alloc: Global, tokens: &'a [Token]) -> Read<'a, Change>
     ensures { Reads change behind_sets tokens.now (seen result) }
 {
-    match expect::<ChangeWord>(tokens) {
-        Ok(Part { value: word, rest }) => match change_behind(alloc, rest, word) {
-            Ok(part) => Ok(part),
-            Err(fault) => Err(fault),
-        },
-        Err(fault) => Err(fault),
-    }
+    let Part { value: word, rest } = expect::<ChangeWord>(tokens)?;
+    change_behind(alloc, rest, word)
 }
 
 /// `INSERT ["(" names ")"] VALUES tuple`
-#[tactic(auto, using(crate::proofs::Merges::addition_insert_no_insert, crate::proofs::Merges::addition_insert_columns_failed, crate::proofs::Merges::addition_insert_no_values, crate::proofs::Merges::addition_insert_tuple_failed, crate::proofs::Merges::addition_insert_whole), unfolding(crate::specs::Grammar::tuple))]
 fn addition_insert<'a>(alloc: Global, tokens: &'a [Token]) -> Read<'a, Addition>
     ensures { Reads addition_insert any tokens.now (seen result) }
 {
-    let rest = match accept_word(tokens, Keyword::Insert) {
-        Some(rest) => rest,
-        None => return Err(Fault::Syntax(tokens.len())),
+    let Some(rest) = accept_word(tokens, Keyword::Insert) else {
+        return Err(Fault::Syntax(tokens.len()));
     };
-    let columns = match columns(alloc, rest) {
-        Ok(part) => part,
-        Err(fault) => return Err(fault),
+    let columns = columns(alloc, rest)?;
+    let Some(rest) = accept_word(columns.rest, Keyword::Values) else {
+        return Err(Fault::Syntax(columns.rest.len()));
     };
-    let rest = match accept_word(columns.rest, Keyword::Values) {
-        Some(rest) => rest,
-        None => return Err(Fault::Syntax(columns.rest.len())),
-    };
-    match list_in_brackets::<ExprTree>(alloc, rest) {
-        Ok(Part { value, rest }) => Ok(Part {
-            value: Addition::Insert(columns.value, value),
-            rest,
-        }),
-        Err(fault) => Err(fault),
-    }
+    let Part { value, rest } = list_in_brackets::<ExprTree>(alloc, rest)?;
+    Ok(Part {
+        value: Addition::Insert(columns.value, value),
+        rest,
+    })
 }
 
 /// `DO NOTHING`
@@ -109,19 +97,13 @@ fn addition_nothing(tokens: &[Token]) -> Read<'_, Addition>
 }
 
 /// `INSERT ["(" names ")"] VALUES tuple | DO NOTHING`
-#[tactic(auto, using(crate::proofs::Merges::addition_insert_read, crate::proofs::Merges::addition_insert_failed, crate::proofs::Merges::addition_nothing_read, crate::proofs::Merges::addition_nothing_failed))]
+#[tactic(auto, using(crate::proofs::Merges::addition_left, crate::proofs::Merges::addition_right))]
 fn addition<'a>(alloc: Global, tokens: &'a [Token]) -> Read<'a, Addition>
     ensures { Reads addition any tokens.now (seen result) }
 {
     match accept_word(tokens, Keyword::Insert) {
-        Some(_) => match addition_insert(alloc, tokens) {
-            Ok(part) => Ok(part),
-            Err(fault) => Err(fault),
-        },
-        None => match addition_nothing(tokens) {
-            Ok(part) => Ok(part),
-            Err(fault) => Err(fault),
-        },
+        Some(_) => addition_insert(alloc, tokens),
+        None => addition_nothing(tokens),
     }
 }
 
@@ -134,69 +116,48 @@ fn guard<'a>(alloc: Global, tokens: &'a [Token]) -> Read<'a, Option<ExprTree>>
 }
 
 /// `[AND expr] THEN` and a change of a matched row.
-#[tactic(auto, using(crate::proofs::Merges::matched_no_guard, crate::proofs::Merges::matched_no_then, crate::proofs::Merges::matched_no_act, crate::proofs::Merges::matched_read))]
 fn matched<'a>(alloc: Global, tokens: &'a [Token]) -> Read<'a, When>
     ensures { Reads (then change Matched) behind_sets tokens.now (seen result) }
 {
-    let condition = match guard(alloc, tokens) {
-        Ok(part) => part,
-        Err(fault) => return Err(fault),
+    let condition = guard(alloc, tokens)?;
+    let Some(rest) = accept_word(condition.rest, Keyword::Then) else {
+        return Err(Fault::Syntax(condition.rest.len()));
     };
-    let rest = match accept_word(condition.rest, Keyword::Then) {
-        Some(rest) => rest,
-        None => return Err(Fault::Syntax(condition.rest.len())),
-    };
-    match change(alloc, rest) {
-        Ok(Part { value, rest }) => Ok(Part {
-            value: When::Matched(condition.value, value),
-            rest,
-        }),
-        Err(fault) => Err(fault),
-    }
+    let Part { value, rest } = change(alloc, rest)?;
+    Ok(Part {
+        value: When::Matched(condition.value, value),
+        rest,
+    })
 }
 
 /// `[AND expr] THEN` and a change of a row that no source row matches.
-#[tactic(auto, using(crate::proofs::Merges::not_by_source_no_guard, crate::proofs::Merges::not_by_source_no_then, crate::proofs::Merges::not_by_source_no_act, crate::proofs::Merges::not_by_source_read))]
 fn not_by_source<'a>(alloc: Global, tokens: &'a [Token]) -> Read<'a, When>
     ensures { Reads (then change NotBySource) behind_sets tokens.now (seen result) }
 {
-    let condition = match guard(alloc, tokens) {
-        Ok(part) => part,
-        Err(fault) => return Err(fault),
+    let condition = guard(alloc, tokens)?;
+    let Some(rest) = accept_word(condition.rest, Keyword::Then) else {
+        return Err(Fault::Syntax(condition.rest.len()));
     };
-    let rest = match accept_word(condition.rest, Keyword::Then) {
-        Some(rest) => rest,
-        None => return Err(Fault::Syntax(condition.rest.len())),
-    };
-    match change(alloc, rest) {
-        Ok(Part { value, rest }) => Ok(Part {
-            value: When::NotBySource(condition.value, value),
-            rest,
-        }),
-        Err(fault) => Err(fault),
-    }
+    let Part { value, rest } = change(alloc, rest)?;
+    Ok(Part {
+        value: When::NotBySource(condition.value, value),
+        rest,
+    })
 }
 
 /// `[AND expr] THEN` and an addition.
-#[tactic(auto, using(crate::proofs::Merges::not_by_target_no_guard, crate::proofs::Merges::not_by_target_no_then, crate::proofs::Merges::not_by_target_no_act, crate::proofs::Merges::not_by_target_read))]
 fn not_by_target<'a>(alloc: Global, tokens: &'a [Token]) -> Read<'a, When>
     ensures { Reads (then addition NotByTarget) any tokens.now (seen result) }
 {
-    let condition = match guard(alloc, tokens) {
-        Ok(part) => part,
-        Err(fault) => return Err(fault),
+    let condition = guard(alloc, tokens)?;
+    let Some(rest) = accept_word(condition.rest, Keyword::Then) else {
+        return Err(Fault::Syntax(condition.rest.len()));
     };
-    let rest = match accept_word(condition.rest, Keyword::Then) {
-        Some(rest) => rest,
-        None => return Err(Fault::Syntax(condition.rest.len())),
-    };
-    match addition(alloc, rest) {
-        Ok(Part { value, rest }) => Ok(Part {
-            value: When::NotByTarget(condition.value, value),
-            rest,
-        }),
-        Err(fault) => Err(fault),
-    }
+    let Part { value, rest } = addition(alloc, rest)?;
+    Ok(Part {
+        value: When::NotByTarget(condition.value, value),
+        rest,
+    })
 }
 
 /// `SOURCE | TARGET`, behind WHEN NOT MATCHED BY.
@@ -244,7 +205,7 @@ fn when_behind<'a>(alloc: Global, tokens: &'a [Token]) -> Read<'a, When>
 /// `when {when}`
 #[tactic(auto, using(crate::proofs::Merges::whens_no_when, crate::proofs::Merges::whens_not_begun, crate::proofs::Merges::whens_begun, crate::proofs::Merges::whens_go_on, crate::proofs::Merges::whens_break_off, crate::proofs::Merges::whens_end, crate::proofs::Lists::reads_no_more))]
 fn whens<'a>(alloc: Global, tokens: &'a [Token]) -> Read<'a, Items<When>>
-    ensures { Reads whens behind_whens tokens.now (seen result) }
+    ensures { Reads whens (behind 14) tokens.now (seen result) }
 {
     let mut clauses = Items::new(alloc);
     let behind = match accept_word(tokens, Keyword::When) {
@@ -273,54 +234,34 @@ fn whens<'a>(alloc: Global, tokens: &'a [Token]) -> Read<'a, Items<When>>
 }
 
 /// `INTO name [[AS] name] USING source ON expr when {when} [returning]`, behind MERGE.
-#[tactic(auto, using(crate::proofs::Merges::merge_no_into, crate::proofs::Merges::merge_target_failed, crate::proofs::Merges::merge_no_using, crate::proofs::Merges::merge_source_failed, crate::proofs::Merges::merge_no_on, crate::proofs::Merges::merge_condition_failed, crate::proofs::Merges::merge_whens_failed, crate::proofs::Merges::merge_returning_failed, crate::proofs::Merges::merge_whole))]
 pub(crate) fn merge<'a>(alloc: Global, tokens: &'a [Token]) -> Read<'a, Merge>
     ensures { Reads merge behind_statement tokens.now (seen result) }
 {
-    let rest = match accept_word(tokens, Keyword::Into) {
-        Some(rest) => rest,
-        None => return Err(Fault::Syntax(tokens.len())),
+    let Some(rest) = accept_word(tokens, Keyword::Into) else {
+        return Err(Fault::Syntax(tokens.len()));
     };
-    let target = match table_ref(alloc, rest) {
-        Ok(part) => part,
-        Err(fault) => return Err(fault),
+    let target = table_ref(alloc, rest)?;
+    let Some(rest) = accept_word(target.rest, Keyword::Using) else {
+        return Err(Fault::Syntax(target.rest.len()));
     };
-    let rest = match accept_word(target.rest, Keyword::Using) {
-        Some(rest) => rest,
-        None => return Err(Fault::Syntax(target.rest.len())),
+    let source = Source::read(alloc, rest, 0)?;
+    let Some(rest) = accept_word(source.rest, Keyword::On) else {
+        return Err(Fault::Syntax(source.rest.len()));
     };
-    let source = match Source::read(alloc, rest, 0) {
-        Ok(part) => part,
-        Err(fault) => return Err(fault),
-    };
-    let rest = match accept_word(source.rest, Keyword::On) {
-        Some(rest) => rest,
-        None => return Err(Fault::Syntax(source.rest.len())),
-    };
-    let on = match expr(alloc, rest) {
-        Ok(part) => part,
-        Err(fault) => return Err(fault),
-    };
-    let clauses = match whens(alloc, on.rest) {
-        Ok(part) => part,
-        Err(fault) => return Err(fault),
-    };
-    match returning(alloc, clauses.rest) {
-        Ok(
-            Part {
-                value: returning,
-                rest,
-            },
-        ) => Ok(Part {
-            value: Merge {
-                target: target.value,
-                source: source.value,
-                on: on.value,
-                clauses: clauses.value,
-                returning,
-            },
-            rest,
-        }),
-        Err(fault) => Err(fault),
-    }
+    let on = expr(alloc, rest)?;
+    let clauses = whens(alloc, on.rest)?;
+    let Part {
+        value: returning,
+        rest,
+    } = returning(alloc, clauses.rest)?;
+    Ok(Part {
+        value: Merge {
+            target: target.value,
+            source: source.value,
+            on: on.value,
+            clauses: clauses.value,
+            returning,
+        },
+        rest,
+    })
 }

@@ -3,7 +3,8 @@ ghost use Rattle.std.specs.Prelude.{◌≡◌, MatchOption};
 ghost use Rattle.pg_parse_stmt.specs.Expected.{Dotted, NotDotted, BeginsAllOf};
 ghost use Rattle.pg_grammar.specs.Answers.{Reads, read};
 ghost use Rattle.pg_grammar.specs.Parts.{seen};
-ghost use Rattle.pg_parse_stmt.specs.Behind.{any, behind_as, behind_item, behind_items, behind_returning, behind_direction, behind_nulls, behind_order_key, behind_order, behind_limit, behind_wait, behind_of, behind_locked, behind_locking, behind_statement};
+ghost use Rattle.pg_parse_stmt.specs.Ranks.{behind};
+ghost use Rattle.pg_parse_stmt.specs.Behind.{any, behind_as, behind_item, behind_items, behind_direction, behind_nulls, behind_order_key, behind_limit, behind_wait, behind_of, behind_locked, behind_locking, behind_statement};
 ghost use Rattle.pg_parse_stmt.specs.Grammar.{item, as_name, named_expr, returning, direction, nulls_by, nulls, order_key, order, limit, strength_behind, strength, of_table, lock_wait, locked, locking, select};
 
 use crate::front::{Read, begins_name, name};
@@ -51,21 +52,15 @@ fn all_of<'a>(alloc: Global, tokens: &'a [Token], rest: &'a [Token]) -> Read<'a,
 }
 
 /// `expr [AS name]`
-#[tactic(auto, using(crate::proofs::Naming::named_expr_expr_failed, crate::proofs::Naming::named_expr_name_failed, crate::proofs::Naming::named_expr_whole))]
 fn named_expr<'a>(alloc: Global, tokens: &'a [Token]) -> Read<'a, Item>
     ensures { Reads named_expr behind_item tokens.now (seen result) }
 {
-    let Part { value: expr, rest } = match expr(alloc, tokens) {
-        Ok(part) => part,
-        Err(fault) => return Err(fault),
-    };
-    match as_name(alloc, rest) {
-        Ok(Part { value: name, rest }) => Ok(Part {
-            value: Item::Expr(expr, name),
-            rest,
-        }),
-        Err(fault) => Err(fault),
-    }
+    let Part { value: expr, rest } = expr(alloc, tokens)?;
+    let Part { value: name, rest } = as_name(alloc, rest)?;
+    Ok(Part {
+        value: Item::Expr(expr, name),
+        rest,
+    })
 }
 
 /// `[AS name]`
@@ -113,7 +108,7 @@ impl Listed for Item {
 /// `[RETURNING items]`
 #[tactic(auto, using(crate::proofs::Orders::returning_read, crate::proofs::Orders::returning_none), unfolding(crate::specs::Grammar::items, crate::specs::Behind::behind_items))]
 pub(crate) fn returning<'a>(alloc: Global, tokens: &'a [Token]) -> Read<'a, Items<Item>>
-    ensures { Reads returning behind_returning tokens.now (seen result) }
+    ensures { Reads returning (behind 16) tokens.now (seen result) }
 {
     match accept_word(tokens, Keyword::Returning) {
         Some(rest) => list::<Item>(alloc, rest),
@@ -172,27 +167,21 @@ impl Listed for OrderKey {
 
     ghost follows = { behind_order_key };
 
-    #[tactic(auto, using(crate::proofs::Orders::order_key_expr_failed, crate::proofs::Orders::order_key_nulls_failed, crate::proofs::Orders::order_key_whole))]
     fn read<'a>(alloc: Global, tokens: &'a [Token]) -> Read<'a, OrderKey> {
-        let Part { value: expr, rest } = match expr(alloc, tokens) {
-            Ok(part) => part,
-            Err(fault) => return Err(fault),
-        };
+        let Part { value: expr, rest } = expr(alloc, tokens)?;
         let Part {
             value: direction,
             rest,
         } = direction(rest);
-        match nulls(rest, direction) {
-            Ok(Part { value: nulls, rest }) => Ok(Part {
-                value: OrderKey {
-                    expr,
-                    direction,
-                    nulls,
-                },
-                rest,
-            }),
-            Err(fault) => Err(fault),
-        }
+        let Part { value: nulls, rest } = nulls(rest, direction)?;
+        Ok(Part {
+            value: OrderKey {
+                expr,
+                direction,
+                nulls,
+            },
+            rest,
+        })
     }
 
     ghost comma = { behind_order_key_comma };
@@ -205,7 +194,7 @@ impl Listed for OrderKey {
 /// `[ORDER BY order_key {"," order_key}]`
 #[tactic(auto, using(crate::proofs::Orders::order_read, crate::proofs::Orders::order_no_by, crate::proofs::Orders::order_none))]
 fn order<'a>(alloc: Global, tokens: &'a [Token]) -> Read<'a, Items<OrderKey>>
-    ensures { Reads order behind_order tokens.now (seen result) }
+    ensures { Reads order (behind 14) tokens.now (seen result) }
 {
     match accept_word(tokens, Keyword::Order) {
         Some(rest) => match accept_word(rest, Keyword::By) {
@@ -301,32 +290,23 @@ fn of_table<'a>(alloc: Global, tokens: &'a [Token]) -> Read<'a, Option<NameText>
 }
 
 /// `strength [OF name] [NOWAIT | SKIP LOCKED]`, behind FOR.
-#[tactic(auto, using(crate::proofs::Locks::locked_strength_failed, crate::proofs::Locks::locked_table_failed, crate::proofs::Locks::locked_wait_failed, crate::proofs::Locks::locked_whole))]
 fn locked<'a>(alloc: Global, tokens: &'a [Token]) -> Read<'a, Locking>
     ensures { Reads locked behind_locked tokens.now (seen result) }
 {
     let Part {
         value: strength,
         rest,
-    } = match strength(tokens) {
-        Ok(part) => part,
-        Err(fault) => return Err(fault),
-    };
-    let Part { value: table, rest } = match of_table(alloc, rest) {
-        Ok(part) => part,
-        Err(fault) => return Err(fault),
-    };
-    match lock_wait(rest) {
-        Ok(Part { value: wait, rest }) => Ok(Part {
-            value: Locking {
-                strength,
-                table,
-                wait,
-            },
-            rest,
-        }),
-        Err(fault) => Err(fault),
-    }
+    } = strength(tokens)?;
+    let Part { value: table, rest } = of_table(alloc, rest)?;
+    let Part { value: wait, rest } = lock_wait(rest)?;
+    Ok(Part {
+        value: Locking {
+            strength,
+            table,
+            wait,
+        },
+        rest,
+    })
 }
 
 impl Listed for Locking {
@@ -359,51 +339,30 @@ fn locking<'a>(alloc: Global, tokens: &'a [Token]) -> Read<'a, Option<Locking>>
 }
 
 /// `items FROM from [WHERE expr] [ORDER BY order_key {"," order_key}] [LIMIT integer] [FOR locked]`, behind SELECT.
-#[tactic(auto, using(crate::proofs::Selects::select_items_failed, crate::proofs::Selects::select_no_from, crate::proofs::Selects::select_sources_failed, crate::proofs::Selects::select_condition_failed, crate::proofs::Selects::select_order_failed, crate::proofs::Selects::select_limit_failed, crate::proofs::Selects::select_locking_failed, crate::proofs::Selects::select_whole), unfolding(crate::specs::Grammar::items, crate::specs::Behind::behind_items))]
 pub(crate) fn select<'a>(alloc: Global, tokens: &'a [Token]) -> Read<'a, Select>
     ensures { Reads select behind_statement tokens.now (seen result) }
 {
-    let items = match list::<Item>(alloc, tokens) {
-        Ok(part) => part,
-        Err(fault) => return Err(fault),
+    let items = list::<Item>(alloc, tokens)?;
+    let Some(rest) = accept_word(items.rest, Keyword::From) else {
+        return Err(Fault::Syntax(items.rest.len()));
     };
-    let rest = match accept_word(items.rest, Keyword::From) {
-        Some(rest) => rest,
-        None => return Err(Fault::Syntax(items.rest.len())),
-    };
-    let from = match sources(alloc, rest) {
-        Ok(part) => part,
-        Err(fault) => return Err(fault),
-    };
-    let condition = match condition(alloc, from.rest) {
-        Ok(part) => part,
-        Err(fault) => return Err(fault),
-    };
-    let order = match order(alloc, condition.rest) {
-        Ok(part) => part,
-        Err(fault) => return Err(fault),
-    };
-    let limit = match limit(alloc, order.rest) {
-        Ok(part) => part,
-        Err(fault) => return Err(fault),
-    };
-    match locking(alloc, limit.rest) {
-        Ok(
-            Part {
-                value: locking,
-                rest,
-            },
-        ) => Ok(Part {
-            value: Select {
-                items: items.value,
-                from: from.value,
-                condition: condition.value,
-                order: order.value,
-                limit: limit.value,
-                locking,
-            },
-            rest,
-        }),
-        Err(fault) => Err(fault),
-    }
+    let from = sources(alloc, rest)?;
+    let condition = condition(alloc, from.rest)?;
+    let order = order(alloc, condition.rest)?;
+    let limit = limit(alloc, order.rest)?;
+    let Part {
+        value: locking,
+        rest,
+    } = locking(alloc, limit.rest)?;
+    Ok(Part {
+        value: Select {
+            items: items.value,
+            from: from.value,
+            condition: condition.value,
+            order: order.value,
+            limit: limit.value,
+            locking,
+        },
+        rest,
+    })
 }

@@ -176,7 +176,6 @@ fn alone<'a, S: FromSource>(
 }
 
 /// `source ON expr`
-#[tactic(auto, using(crate::proofs::Froms::joined_not_read, crate::proofs::Froms::joined_no_on, crate::proofs::Froms::joined_no_expr, crate::proofs::Froms::joined_read))]
 fn joined<'a, S: FromSource>(
     alloc: Global,
     tokens: &'a [Token],
@@ -189,28 +188,22 @@ fn joined<'a, S: FromSource>(
     let Part {
         value: source,
         rest,
-    } = match S::read(alloc, tokens, before) {
-        Ok(part) => part,
-        Err(fault) => return Err(fault),
+    } = S::read(alloc, tokens, before)?;
+    let Some(rest) = accept_word(rest, Keyword::On) else {
+        return Err(Fault::Syntax(rest.len()));
     };
-    let rest = match accept_word(rest, Keyword::On) {
-        Some(rest) => rest,
-        None => return Err(Fault::Syntax(rest.len())),
-    };
-    match expr(alloc, rest) {
-        Ok(Part { value, rest }) => Ok(Part {
-            value: Joined {
-                source,
-                on: Some(value),
-            },
-            rest,
-        }),
-        Err(fault) => Err(fault),
-    }
+    let Part { value, rest } = expr(alloc, rest)?;
+    Ok(Part {
+        value: Joined {
+            source,
+            on: Some(value),
+        },
+        rest,
+    })
 }
 
 /// A source behind its link to those before it.
-#[tactic(auto, using(crate::proofs::Froms::comma_read, crate::proofs::Froms::comma_failed, crate::proofs::Froms::join_failed, crate::proofs::Froms::inner_failed, crate::proofs::Froms::join_read, crate::proofs::Froms::inner_read, crate::proofs::Froms::inner_no_join))]
+#[tactic(auto, using(crate::proofs::Froms::comma_is, crate::proofs::Froms::join_is, crate::proofs::Froms::inner_is, crate::proofs::Froms::inner_no_join))]
 fn linked<'a, S: FromSource>(
     alloc: Global,
     tokens: &'a [Token],
@@ -222,19 +215,10 @@ fn linked<'a, S: FromSource>(
     ensures count { IfOk result (λ part. before + S.count_of part.value.source ≤ 8) }
 {
     match link {
-        Link::Comma => match alone::<S>(alloc, tokens, before) {
-            Ok(part) => Ok(part),
-            Err(fault) => Err(fault),
-        },
-        Link::Join => match joined::<S>(alloc, tokens, before) {
-            Ok(part) => Ok(part),
-            Err(fault) => Err(fault),
-        },
+        Link::Comma => alone::<S>(alloc, tokens, before),
+        Link::Join => joined::<S>(alloc, tokens, before),
         Link::Inner => match accept_word(tokens, Keyword::Join) {
-            Some(rest) => match joined::<S>(alloc, rest, before) {
-                Ok(part) => Ok(part),
-                Err(fault) => Err(fault),
-            },
+            Some(rest) => joined::<S>(alloc, rest, before),
             None => Err(Fault::Syntax(tokens.len())),
         },
     }
@@ -298,7 +282,7 @@ impl FromSource for TableRef {
 }
 
 /// `items FROM from [WHERE expr]`, behind SELECT.
-#[tactic(auto, using(crate::proofs::Subselects::subselect_items_failed, crate::proofs::Subselects::subselect_no_from, crate::proofs::Subselects::subselect_sources_failed, crate::proofs::Subselects::subselect_condition_failed, crate::proofs::Subselects::subselect_whole, crate::proofs::Froms::tables_counted), unfolding(crate::specs::Grammar::items, crate::specs::Behind::behind_items))]
+#[tactic(auto, using(crate::proofs::Froms::tables_counted))]
 pub(crate) fn subselect<'a>(
     alloc: Global,
     tokens: &'a [Token],
@@ -308,94 +292,64 @@ pub(crate) fn subselect<'a>(
     ensures reads { Reads (subselect before) behind_subselect tokens.now (seen result) }
     ensures count { IfOk result (λ part. before + length part.value.from ≤ 8) }
 {
-    let Part { value: items, rest } = match list::<Item>(alloc, tokens) {
-        Ok(part) => part,
-        Err(fault) => return Err(fault),
+    let Part { value: items, rest } = list::<Item>(alloc, tokens)?;
+    let Some(rest) = accept_word(rest, Keyword::From) else {
+        return Err(Fault::Syntax(rest.len()));
     };
-    let rest = match accept_word(rest, Keyword::From) {
-        Some(rest) => rest,
-        None => return Err(Fault::Syntax(rest.len())),
-    };
-    let Part { value: from, rest } = match from::<TableRef>(alloc, rest, before) {
-        Ok(part) => part,
-        Err(fault) => return Err(fault),
-    };
-    match condition(alloc, rest) {
-        Ok(
-            Part {
-                value: condition,
-                rest,
-            },
-        ) => Ok(Part {
-            value: Subselect {
-                items,
-                from,
-                condition,
-            },
-            rest,
-        }),
-        Err(fault) => Err(fault),
-    }
+    let Part { value: from, rest } = from::<TableRef>(alloc, rest, before)?;
+    let Part {
+        value: condition,
+        rest,
+    } = condition(alloc, rest)?;
+    Ok(Part {
+        value: Subselect {
+            items,
+            from,
+            condition,
+        },
+        rest,
+    })
 }
 
 /// `values ")" [AS] name "(" names ")"`, behind VALUES.
-#[tactic(auto, using(crate::proofs::Bracketed::values_source_rows_failed, crate::proofs::Bracketed::values_source_no_close, crate::proofs::Bracketed::values_source_alias_failed, crate::proofs::Bracketed::values_source_columns_failed, crate::proofs::Bracketed::values_source_whole), unfolding(crate::specs::Grammar::tuples, crate::specs::Grammar::names, crate::specs::Behind::behind_tuples))]
 fn values_source<'a>(alloc: Global, tokens: &'a [Token]) -> Read<'a, Source>
     ensures reads { Reads values_source any tokens.now (seen result) }
     ensures count { IfOk result (λ part. sources_of part.value ≡ 1) }
 {
-    let Part { value: rows, rest } = match list::<Tuple>(alloc, tokens) {
-        Ok(part) => part,
-        Err(fault) => return Err(fault),
+    let Part { value: rows, rest } = list::<Tuple>(alloc, tokens)?;
+    let Some(rest) = accept_sign(rest, Sign::Close) else {
+        return Err(Fault::Syntax(rest.len()));
     };
-    let rest = match accept_sign(rest, Sign::Close) {
-        Some(rest) => rest,
-        None => return Err(Fault::Syntax(rest.len())),
-    };
-    let Part { value: alias, rest } = match alias(alloc, rest) {
-        Ok(part) => part,
-        Err(fault) => return Err(fault),
-    };
-    match list_in_brackets::<NameText>(alloc, rest) {
-        Ok(
-            Part {
-                value: columns,
-                rest,
-            },
-        ) => Ok(Part {
-            value: Source::Values(ValuesSource {
-                rows,
-                alias,
-                columns,
-            }),
-            rest,
+    let Part { value: alias, rest } = alias(alloc, rest)?;
+    let Part {
+        value: columns,
+        rest,
+    } = list_in_brackets::<NameText>(alloc, rest)?;
+    Ok(Part {
+        value: Source::Values(ValuesSource {
+            rows,
+            alias,
+            columns,
         }),
-        Err(fault) => Err(fault),
-    }
+        rest,
+    })
 }
 
 /// `subselect ")" [AS] name`, behind SELECT.
-#[tactic(auto, using(crate::proofs::Bracketed::query_source_query_failed, crate::proofs::Bracketed::query_source_no_close, crate::proofs::Bracketed::query_source_alias_failed, crate::proofs::Bracketed::query_source_whole))]
 fn query_source<'a>(alloc: Global, tokens: &'a [Token], before: usize) -> Read<'a, Source>
     requires { before ≤ 8 }
     ensures reads { Reads (query_source before) any tokens.now (seen result) }
     ensures count { IfOk result (λ part. before + sources_of part.value ≤ 9) }
 {
-    let Part { value: query, rest } = match subselect(alloc, tokens, before) {
-        Ok(part) => part,
-        Err(fault) => return Err(fault),
+    let Part { value: query, rest } = subselect(alloc, tokens, before)?;
+    let Some(rest) = accept_sign(rest, Sign::Close) else {
+        return Err(Fault::Syntax(rest.len()));
     };
-    let rest = match accept_sign(rest, Sign::Close) {
-        Some(rest) => rest,
-        None => return Err(Fault::Syntax(rest.len())),
-    };
-    match alias(alloc, rest) {
-        Ok(Part { value: alias, rest }) => Ok(Part {
-            value: Source::Query(QuerySource { query, alias }),
-            rest,
-        }),
-        Err(fault) => Err(fault),
-    }
+    let Part { value: alias, rest } = alias(alloc, rest)?;
+    Ok(Part {
+        value: Source::Query(QuerySource { query, alias }),
+        rest,
+    })
 }
 
 /// What stands in the brackets of a source, `before` sources beginning before it, itself among them.

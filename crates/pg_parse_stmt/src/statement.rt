@@ -37,34 +37,28 @@ fn transaction(tokens: &[Token], tree: StmtTree) -> Read<'_, StmtTree>
 }
 
 /// `LEVEL READ COMMITTED`, behind ISOLATION.
-#[tactic(auto, using(crate::proofs::Statements::committed_no_level, crate::proofs::Statements::committed_no_read, crate::proofs::Statements::committed_no_word, crate::proofs::Statements::committed_whole))]
 fn committed(tokens: &[Token], tree: StmtTree) -> Read<'_, StmtTree>
     ensures { Reads (committed tree) any tokens.now (seen result) }
 {
-    let rest = match accept_word(tokens, Keyword::Level) {
-        Some(rest) => rest,
-        None => return Err(Fault::Syntax(tokens.len())),
+    let Some(rest) = accept_word(tokens, Keyword::Level) else {
+        return Err(Fault::Syntax(tokens.len()));
     };
-    let rest = match accept_word(rest, Keyword::Read) {
-        Some(rest) => rest,
-        None => return Err(Fault::Syntax(rest.len())),
+    let Some(rest) = accept_word(rest, Keyword::Read) else {
+        return Err(Fault::Syntax(rest.len()));
     };
-    match accept_word(rest, Keyword::Committed) {
-        Some(rest) => Ok(Part { value: tree, rest }),
-        None => Err(Fault::Syntax(rest.len())),
-    }
+    let Some(rest) = accept_word(rest, Keyword::Committed) else {
+        return Err(Fault::Syntax(rest.len()));
+    };
+    Ok(Part { value: tree, rest })
 }
 
 /// `[ISOLATION LEVEL READ COMMITTED]`
-#[tactic(auto, using(crate::proofs::Statements::isolation_read, crate::proofs::Statements::isolation_failed, crate::proofs::Statements::isolation_none))]
+#[tactic(auto, using(crate::proofs::Statements::isolation_on, crate::proofs::Statements::isolation_none))]
 fn isolation(tokens: &[Token], tree: StmtTree) -> Read<'_, StmtTree>
     ensures { Reads (isolation tree) behind_begin tokens.now (seen result) }
 {
     match accept_word(tokens, Keyword::Isolation) {
-        Some(rest) => match committed(rest, tree) {
-            Ok(part) => Ok(part),
-            Err(fault) => Err(fault),
-        },
+        Some(rest) => committed(rest, tree),
         None => Ok(Part {
             value: tree,
             rest: tokens,
@@ -73,17 +67,12 @@ fn isolation(tokens: &[Token], tree: StmtTree) -> Read<'_, StmtTree>
 }
 
 /// `[WORK | TRANSACTION] [ISOLATION LEVEL READ COMMITTED]`, behind BEGIN.
-#[tactic(auto, using(crate::proofs::Statements::begin_read, crate::proofs::Statements::begin_not_read, crate::proofs::Statements::begin_failed))]
+#[tactic(auto, using(crate::proofs::Statements::begin_on, crate::proofs::Statements::begin_failed))]
 fn begin(tokens: &[Token]) -> Read<'_, StmtTree>
     ensures { Reads begin behind_begin tokens.now (seen result) }
 {
-    match transaction(tokens, StmtTree::Begin) {
-        Ok(Part { value, rest }) => match isolation(rest, value) {
-            Ok(part) => Ok(part),
-            Err(fault) => Err(fault),
-        },
-        Err(fault) => Err(fault),
-    }
+    let Part { value, rest } = transaction(tokens, StmtTree::Begin)?;
+    isolation(rest, value)
 }
 
 /// What is behind SELECT.
@@ -157,19 +146,13 @@ fn merge_statement<'a>(alloc: Global, tokens: &'a [Token]) -> Read<'a, StmtTree>
 }
 
 /// What is behind CREATE.
-#[tactic(auto, using(crate::proofs::Statements::create_table_read, crate::proofs::Statements::create_table_failed, crate::proofs::Statements::create_index_read, crate::proofs::Statements::create_index_failed))]
+#[tactic(auto, using(crate::proofs::Statements::table_on, crate::proofs::Statements::index_on))]
 fn create<'a>(alloc: Global, tokens: &'a [Token]) -> Read<'a, StmtTree>
     ensures { Reads (either table_rule index_rule) behind_statement tokens.now (seen result) }
 {
     match accept_word(tokens, Keyword::Table) {
-        Some(_) => match create_table(alloc, tokens) {
-            Ok(part) => Ok(part),
-            Err(fault) => Err(fault),
-        },
-        None => match create_index(alloc, tokens) {
-            Ok(part) => Ok(part),
-            Err(fault) => Err(fault),
-        },
+        Some(_) => create_table(alloc, tokens),
+        None => create_index(alloc, tokens),
     }
 }
 
@@ -197,17 +180,12 @@ fn statement_behind<'a>(
 }
 
 /// A statement, in a version of the language.
-#[tactic(auto, using(crate::proofs::Statements::statement_read, crate::proofs::Statements::statement_not_read, crate::proofs::Statements::statement_failed))]
+#[tactic(auto, using(crate::proofs::Statements::statement_on, crate::proofs::Statements::statement_failed))]
 fn statement<'a>(alloc: Global, version: u32, tokens: &'a [Token]) -> Read<'a, StmtTree>
     ensures { Reads (statement version) behind_statement tokens.now (seen result) }
 {
-    match expect::<Lead>(tokens) {
-        Ok(Part { value: lead, rest }) => match statement_behind(alloc, version, rest, lead) {
-            Ok(part) => Ok(part),
-            Err(fault) => Err(fault),
-        },
-        Err(fault) => Err(fault),
-    }
+    let Part { value: lead, rest } = expect::<Lead>(tokens)?;
+    statement_behind(alloc, version, rest, lead)
 }
 
 /// A statement, and one `;` that may end it.

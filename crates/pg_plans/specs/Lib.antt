@@ -1,2 +1,1 @@
 pub mod LentRows
-pub mod Next

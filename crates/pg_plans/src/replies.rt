@@ -4,36 +4,13 @@ ghost use Rattle.pg_lists.specs.Numbered.{nth_item};
 ghost use Rattle.pg_model.specs.declared.statement.Insert.{Insert};
 ghost use Rattle.pg_model.specs.declared.statement.Select.{Select};
 ghost use Rattle.pg_model.specs.declared.statement.Statement.TheVariants as statement;
-ghost use Rattle.pg_world.specs.Replies.{bare_reply as reply_without_rows, candidate_list as list_of, proposed_values as values_proposed, reply_of, shown_value as value_shown};
+ghost use Rattle.pg_world.specs.Replies.{candidate_list as list_of, proposed_values as values_proposed, reply_of, shown_value as value_shown};
 
 use pg_lists::{Items, TryCopy};
-use pg_model::{Reply, Rows, Statement, Tag};
+use pg_model::{Reply, Rows, Tag};
 use pg_values::{Value, Values, copy_value};
 use pg_world::{Candidate, Running};
 use std::alloc::{AllocError, Global};
-
-/// The reply of a statement that is done.
-pub fn reply(alloc: Global, statement: &Statement, running: &Running) -> Result<Reply, AllocError>
-    ensures { IfOk result (λ reply. reply ≡ reply_of statement.now running.now) }
-{
-    match statement {
-        Statement::Begin => Ok(bare_reply(alloc, Tag::Begin)),
-        Statement::Commit => Ok(bare_reply(alloc, Tag::Commit)),
-        Statement::Rollback => Ok(bare_reply(alloc, Tag::Rollback)),
-        Statement::Select(_) => Ok(select_reply(alloc, running)?),
-        Statement::Insert(_) => Ok(insert_reply(alloc, running)?),
-    }
-}
-
-/// The reply of BEGIN, COMMIT and ROLLBACK, which return no rows.
-fn bare_reply(alloc: Global, tag: Tag) -> Reply
-    ensures { result ≡ reply_without_rows tag }
-{
-    Reply {
-        tag,
-        rows: Items::new(alloc),
-    }
-}
 
 /// The reply of a plain SELECT that is done: its output rows, in which an integer is a bigint.
 pub fn select_reply(alloc: Global, running: &Running) -> Result<Reply, AllocError>

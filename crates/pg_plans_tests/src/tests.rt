@@ -2,7 +2,7 @@
 use crate::cases::{cut, difference, put_candidates, read, rows_of, statement_of};
 use pg_lists::Items;
 use pg_model::{Line, Script, Statement};
-use pg_plans::{SeenRows, candidates, table_written, tables_read};
+use pg_plans::{SeenRows, candidates, tables_read};
 use std::alloc::{AllocError, Global};
 
 /// Scripts, each with the candidates of its lines. Each line sees the rows that the first line
@@ -17,7 +17,7 @@ a: SELECT x FROM t WHERE NULL
 a: SELECT x, x + 1, NULL FROM t WHERE y > 10
 a: BEGIN
 =>
-into 0 [Int(1), Big(10)][Int(2), Big(20)]
+[Int(1), Big(10)][Int(2), Big(20)]
 from 0 [Big(10), Int(1)][Big(20), Int(2)]
 from 0 [Int(2)]
 from 0 none
@@ -33,7 +33,7 @@ a: SELECT 10 / y FROM t WHERE x = 2
 a: SELECT 2147483647 + x FROM t WHERE 10 / y = 2
 a: SELECT 10 / y FROM t WHERE 2147483647 + x = 5
 =>
-into 1 [Int(1), Big(5)][Int(2), Big(0)]
+[Int(1), Big(5)][Int(2), Big(0)]
 from 1 [Big(2)]
 from 1 22012 division by zero
 from 1 22012 division by zero
@@ -49,13 +49,13 @@ a: INSERT INTO t VALUES (2147483648, 1 / 0)
 a: INSERT INTO t (y, x) VALUES (1 / 0, 2147483648)
 a: INSERT INTO t (x) VALUES (1), (1 / 0), (2147483648)
 =>
-into 0 [Null, Big(1)][Null, Big(2)]
-into 0 [Int(2), Big(1)]
-into 0 [Int(1), Null]
-into 0 22003 integer out of range
-into 0 22003 integer out of range
-into 0 22012 division by zero
-into 0 22012 division by zero";
+[Null, Big(1)][Null, Big(2)]
+[Int(2), Big(1)]
+[Int(1), Null]
+22003 integer out of range
+22003 integer out of range
+22012 division by zero
+22012 division by zero";
 
 /// The rows that the first line of a script proposes, as they are seen.
 fn first_rows(alloc: Global, script: &Script) -> Result<SeenRows, AllocError> {
@@ -76,16 +76,6 @@ fn table_read(alloc: Global, statement: &Statement) -> Result<&'static str, Allo
     })
 }
 
-/// The table that a statement writes.
-fn table_into(statement: &Statement) -> &'static str {
-    match table_written(statement) {
-        None => "",
-        Some(0) => "into 0 ",
-        Some(1) => "into 1 ",
-        Some(_) => "into another ",
-    }
-}
-
 /// Appends what is made of the statement of a line.
 fn put_line(
     alloc: Global,
@@ -95,7 +85,6 @@ fn put_line(
 ) -> Result<(), AllocError> {
     let statement = statement_of(line)?;
     text.extend_from_slice(table_read(alloc, statement)?.as_bytes())?;
-    text.extend_from_slice(table_into(statement).as_bytes())?;
     let answer = candidates(alloc, statement, seen);
     let put = put_candidates(alloc, text, &answer);
     drop(answer);

@@ -58,7 +58,8 @@ next_is last from next first is = at (nat_le after last) refl is
 
 -- the present table
 module _ (tables : List TableState) (transactions : Transactions) (reading : ReadingView) (number : ℕ) (state : TableState)
-    (there : item_at reading.tables (length reading.seen) ≡ Some number) (at : item_at tables number ≡ Some state) where
+    (there : item_at reading.tables (length reading.seen) ≡ Some number) (at : item_at tables number ≡ Some state)
+    (is : IsReading tables transactions reading) where
   pub present_is : present_versions tables reading ≡ state.store.versions
   present_is =
       ap (λ o. option_map_or (versions_in tables) o []) there
@@ -69,91 +70,90 @@ module _ (tables : List TableState) (transactions : Transactions) (reading : Rea
       ap (λ o. option_map_or (seen_rows transactions reading.snapshot.commits reading.me) o [])
       (slice_get-map table_shown tables number ∙ ap (λ o. option_map table_shown o) at)
 
-  module _ (is : IsReading tables transactions reading) where
-    -- what was found_in transactions state reading what the piece shows
-    abbrev found : List SeenVersion
-    found = found_in transactions state reading
+  -- what was found_in transactions state reading what the piece shows
+  abbrev found : List SeenVersion
+  found = found_in transactions state reading
 
-    abbrev below : ℕ → List SeenVersion
-    below from = seen_below transactions reading.snapshot.commits reading.me state.store.versions from
+  abbrev below : ℕ → List SeenVersion
+  below from = seen_below transactions reading.snapshot.commits reading.me state.store.versions from
 
-    in_range : reading.from ≤ length state.store.versions + 1
-    in_range = subst (λ versions. reading.from ≤ length versions + 1) present_is is.within
+  in_range : reading.from ≤ length state.store.versions + 1
+  in_range = subst (λ versions. reading.from ≤ length versions + 1) present_is is.within
 
-    collected : (o : Option ℕ) → next_in state reading ≡ o →
-        rows_with reading found ≡ map seen_row_of (below (number_behind state.store.versions o))
-    collected o next =
-        ap (λ part. part ++ map seen_row_of found)
-        (is.part ∙ ap (λ versions. map seen_row_of (seen_below transactions reading.snapshot.commits reading.me versions reading.from)) present_is)
-        ∙ (sym (map-append seen_row_of (below reading.from) found)
-        ∙ ap (map seen_row_of)
-        (piece_follows transactions reading.snapshot.commits reading.me state.store.versions reading.from is.first in_range
-        ∙ ap (λ o. below (number_behind state.store.versions o)) next))
+  collected : (o : Option ℕ) → next_in state reading ≡ o →
+      rows_with reading found ≡ map seen_row_of (below (number_behind state.store.versions o))
+  collected o next =
+      ap (λ part. part ++ map seen_row_of found)
+      (is.part ∙ ap (λ versions. map seen_row_of (seen_below transactions reading.snapshot.commits reading.me versions reading.from)) present_is)
+      ∙ (sym (map-append seen_row_of (below reading.from) found)
+      ∙ ap (map seen_row_of)
+      (piece_follows transactions reading.snapshot.commits reading.me state.store.versions reading.from is.first in_range
+      ∙ ap (λ o. below (number_behind state.store.versions o)) next))
 
-    pub gone_on : (next : ℕ) → next_in state reading ≡ Some next →
-        IsReading tables transactions (reading_gone_on reading found next)
-    gone_on next goes =
-        let n = next_is (length state.store.versions) reading.from next is.first goes in
-        let less = n.greater in
-        let le = n.within in
-        record {
-          taken = is.taken;
-          count = is.count;
-          seen = is.seen;
-          part =
-              collected (Some next) goes
-              ∙ ap (λ versions. map seen_row_of (seen_below transactions reading.snapshot.commits reading.me versions next)) (sym present_is);
-          first = omega (arith, less);
-          within = subst (λ versions. next ≤ length versions + 1) (sym present_is) (omega (arith, le));
-        }
+  pub gone_on : (next : ℕ) → next_in state reading ≡ Some next →
+      IsReading tables transactions (reading_gone_on reading found next)
+  gone_on next goes =
+      let n = next_is (length state.store.versions) reading.from next is.first goes in
+      let less = n.greater in
+      let le = n.within in
+      record {
+        taken = is.taken;
+        count = is.count;
+        seen = is.seen;
+        part =
+            collected (Some next) goes
+            ∙ ap (λ versions. map seen_row_of (seen_below transactions reading.snapshot.commits reading.me versions next)) (sym present_is);
+        first = omega (arith, less);
+        within = subst (λ versions. next ≤ length versions + 1) (sym present_is) (omega (arith, le));
+      }
 
-    -- the rows collected have numbers that were drawn
-    rows_drawn : AreWithin state.store → (first count : ℕ) →
-        AreDrawn state.store.drawn (map seen_row_of (filter_map (seen_at transactions reading.snapshot.commits reading.me state.store.versions) (numbers_from first count)))
-    rows_drawn kept first zero = All-nil (λ seen. (0 < seen.row) × (seen.row ≤ state.store.drawn))
-    rows_drawn kept first (suc count) = of_number (stored_of state.store.versions first) refl (rows_drawn kept (first + 1) count)
-      where
-        others : List SeenVersion
-        others = filter_map (seen_at transactions reading.snapshot.commits reading.me state.store.versions) (numbers_from (first + 1) count)
+  -- the rows collected have numbers that were drawn
+  rows_drawn : AreWithin state.store → (first count : ℕ) →
+      AreDrawn state.store.drawn (map seen_row_of (filter_map (seen_at transactions reading.snapshot.commits reading.me state.store.versions) (numbers_from first count)))
+  rows_drawn kept first zero = All-nil (λ seen. (0 < seen.row) × (seen.row ≤ state.store.drawn))
+  rows_drawn kept first (suc count) = of_number (stored_of state.store.versions first) refl (rows_drawn kept (first + 1) count)
+    where
+      others : List SeenVersion
+      others = filter_map (seen_at transactions reading.snapshot.commits reading.me state.store.versions) (numbers_from (first + 1) count)
 
-        of_stored : (stored : Stored) → stored_of state.store.versions first ≡ Some stored → (b : Bool) → AreDrawn state.store.drawn (map seen_row_of others) →
-            AreDrawn state.store.drawn (map seen_row_of (cons_option (cond b (Some (record { row = stored.row; number = first; version = stored.version })) None) others))
-        of_stored stored e false all = all
-        of_stored stored e true all =
-            All-cons (λ seen. (0 < seen.row) × (seen.row ≤ state.store.drawn)) (record { row = stored.row; version = stored.version }) (map seen_row_of others)
-            (kept first stored e) all
+      of_stored : (stored : Stored) → stored_of state.store.versions first ≡ Some stored → (b : Bool) → AreDrawn state.store.drawn (map seen_row_of others) →
+          AreDrawn state.store.drawn (map seen_row_of (cons_option (cond b (Some (record { row = stored.row; number = first; version = stored.version })) None) others))
+      of_stored stored e false all = all
+      of_stored stored e true all =
+          All-cons (λ seen. (0 < seen.row) × (seen.row ≤ state.store.drawn)) (record { row = stored.row; version = stored.version }) (map seen_row_of others)
+          (kept first stored e) all
 
-        of_number : (o : Option Stored) → stored_of state.store.versions first ≡ o → AreDrawn state.store.drawn (map seen_row_of others) →
-            AreDrawn state.store.drawn
-            (map seen_row_of (cons_option (option_and_then (seen_stored transactions reading.snapshot.commits reading.me state.store.versions first) o) others))
-        of_number None e all = all
-        of_number (Some stored) e all =
-            of_stored stored e (is_number (seen_number transactions reading.snapshot.commits reading.me state.store.versions stored.row) first) all
+      of_number : (o : Option Stored) → stored_of state.store.versions first ≡ o → AreDrawn state.store.drawn (map seen_row_of others) →
+          AreDrawn state.store.drawn
+          (map seen_row_of (cons_option (option_and_then (seen_stored transactions reading.snapshot.commits reading.me state.store.versions first) o) others))
+      of_number None e all = all
+      of_number (Some stored) e all =
+          of_stored stored e (is_number (seen_number transactions reading.snapshot.commits reading.me state.store.versions stored.row) first) all
 
-    pub all_drawn : IsTable state → next_in state reading ≡ None →
-        AreDrawn state.store.drawn (rows_with reading found)
-    all_drawn table ends =
-        subst (λ rows. AreDrawn state.store.drawn rows) (sym (collected None ends)) (rows_drawn table.within 1 (length state.store.versions + 1 - 1))
+  pub all_drawn : IsTable state → next_in state reading ≡ None →
+      AreDrawn state.store.drawn (rows_with reading found)
+  all_drawn table ends =
+      subst (λ rows. AreDrawn state.store.drawn rows) (sym (collected None ends)) (rows_drawn table.within 1 (length state.store.versions + 1 - 1))
 
-    pub gone_through : next_in state reading ≡ None →
-        IsReading tables transactions (table_gone_through state.store.drawn reading found)
-    gone_through ends = record {
-      taken = is.taken;
-      count = let h = within reading.tables (length reading.seen) number there in let l = one_longer reading.seen rows in omega (arith, h, l);
-      seen =
-          ap₂ (λ xs x. xs ++ x ∷ []) is.seen
-          (ap (λ rows. in_row_order state.store.drawn rows) (collected None ends)
-          ∙ (scanned_is transactions reading.snapshot.commits reading.me state ∙ sym seen_is))
-          ∙ (sym (map-append (seen_in tables transactions reading) (take (length reading.seen) reading.tables) (number ∷ []))
-          ∙ (ap (map (seen_in tables transactions reading)) (sym (take_next reading.tables (length reading.seen) number there))
-          ∙ ap (λ n. map (seen_in tables transactions reading) (take n reading.tables)) (sym (one_longer reading.seen rows))));
-      part = refl;
-      first = omega arith;
-      within = omega arith;
-    }
-      where
-        rows : List SeenRow
-        rows = in_row_order state.store.drawn (rows_with reading found)
+  pub gone_through : next_in state reading ≡ None →
+      IsReading tables transactions (table_gone_through state.store.drawn reading found)
+  gone_through ends = record {
+    taken = is.taken;
+    count = let h = within reading.tables (length reading.seen) number there in let l = one_longer reading.seen rows in omega (arith, h, l);
+    seen =
+        ap₂ (λ xs x. xs ++ x ∷ []) is.seen
+        (ap (λ rows. in_row_order state.store.drawn rows) (collected None ends)
+        ∙ (scanned_is transactions reading.snapshot.commits reading.me state ∙ sym seen_is))
+        ∙ (sym (map-append (seen_in tables transactions reading) (take (length reading.seen) reading.tables) (number ∷ []))
+        ∙ (ap (map (seen_in tables transactions reading)) (sym (take_next reading.tables (length reading.seen) number there))
+        ∙ ap (λ n. map (seen_in tables transactions reading) (take n reading.tables)) (sym (one_longer reading.seen rows))));
+    part = refl;
+    first = omega arith;
+    within = omega arith;
+  }
+    where
+      rows : List SeenRow
+      rows = in_row_order state.store.drawn (rows_with reading found)
 
   -- how many pieces are left
   abbrev others_left : ℕ
@@ -164,25 +164,24 @@ module _ (tables : List TableState) (transactions : Transactions) (reading : Rea
       ap (pieces_of tables) (drop_next reading.tables (length reading.seen) number there)
       ∙ ap (λ o. (1 + length (option_map_or (λ s. s.store.versions) o [])) + others_left) at
 
-  module _ (is : IsReading tables transactions reading) where
-    pub less_on : (next : ℕ) → next_in state reading ≡ Some next →
-        pieces_left tables (reading_gone_on reading (found_in transactions state reading) next) < pieces_left tables reading
-    less_on next goes =
-        let n = next_is (length state.store.versions) reading.from next is.first goes in
-        let less = n.greater in
-        let le = n.within in
-        let first = is.first in
-        let left = left_is in
-        omega (arith, less, le, first, left)
+  pub less_on : (next : ℕ) → next_in state reading ≡ Some next →
+      pieces_left tables (reading_gone_on reading (found_in transactions state reading) next) < pieces_left tables reading
+  less_on next goes =
+      let n = next_is (length state.store.versions) reading.from next is.first goes in
+      let less = n.greater in
+      let le = n.within in
+      let first = is.first in
+      let left = left_is in
+      omega (arith, less, le, first, left)
 
-    pub less_through : (rows : List SeenRow) (part : List SeenRow) →
-        pieces_left tables (record reading { seen = reading.seen ++ rows ∷ []; part = part; from = 1 }) < pieces_left tables reading
-    less_through rows part =
-        let range = in_range is in
-        let first = is.first in
-        let left = left_is in
-        let now : pieces_of tables (drop (length (reading.seen ++ rows ∷ [])) reading.tables) ≡ others_left = ap (λ n. pieces_of tables (drop n reading.tables)) (one_longer reading.seen rows) in
-        omega (arith, range, first, left, now)
+  pub less_through : (rows : List SeenRow) (part : List SeenRow) →
+      pieces_left tables (record reading { seen = reading.seen ++ rows ∷ []; part = part; from = 1 }) < pieces_left tables reading
+  less_through rows part =
+      let range = in_range in
+      let first = is.first in
+      let left = left_is in
+      let now : pieces_of tables (drop (length (reading.seen ++ rows ∷ [])) reading.tables) ≡ others_left = ap (λ n. pieces_of tables (drop n reading.tables)) (one_longer reading.seen rows) in
+      omega (arith, range, first, left, now)
 
 -- a table that is not there
 module _ (tables : List TableState) (transactions : Transactions) (reading : ReadingView) (number : ℕ)

@@ -1,48 +1,88 @@
-use Rattle.std.proofs.Common.{refl}
+use Rattle.std.proofs.Common.{arith}
+use Rattle.pg_grammar.proofs.Reading.{steps, comes_passed}
 use Rattle.pg_parse_stmt.specs.Grammar.{elements}
-use Rattle.pg_parse_stmt.proofs.Creates.{create_index_name_failed, create_index_no_on, create_index_table_failed, create_index_elements_failed, create_index_condition_failed, create_index_whole}
+use Rattle.pg_parse_stmt.proofs.StatementRules.{create_index_read}
 use Rattle.pg_parse_stmt.proofs.create.create_index.Goals as goal
 
-pub returns-in-Err : goal.returns-in-Err
-returns-in-Err c =
-    create_index_name_failed c.args.tokens.now c.in-Some.rest.now c.in-Some-accept_word.rest.now
-    c.in-Err.fault c.in-Some.ensures c.in-Some-accept_word.ensures c.in-Err.ensures
-
-pub returns-in-None-accept_word-2 : goal.returns-in-None-accept_word-2
-returns-in-None-accept_word-2 c =
-    create_index_no_on c.args.tokens.now c.in-Some.rest.now c.in-Some-accept_word.rest.now c.in-Ok.part.rest.now
-    c.in-Ok.part.value _ c.in-Some.ensures c.in-Some-accept_word.ensures c.in-Ok.ensures c.in-None-accept_word-2.ensures
-    refl
-
-pub returns-in-Err-name : goal.returns-in-Err-name
-returns-in-Err-name c =
-    create_index_table_failed c.args.tokens.now c.in-Some.rest.now c.in-Some-accept_word.rest.now c.in-Ok.part.rest.now
-    c.in-Some-accept_word-2.rest.now c.in-Ok.part.value c.in-Err-name.fault c.in-Some.ensures
-    c.in-Some-accept_word.ensures c.in-Ok.ensures c.in-Some-accept_word-2.ensures c.in-Err-name.ensures
-
-pub returns-in-Err-list_in_brackets : goal.returns-in-Err-list_in_brackets
+pub returns-in_default : goal.returns-in_default
 unfolding elements
-returns-in-Err-list_in_brackets c =
-    create_index_elements_failed c.args.tokens.now c.in-Some.rest.now c.in-Some-accept_word.rest.now
-    c.in-Ok.part.rest.now c.in-Some-accept_word-2.rest.now c.in-Ok-name.part.rest.now c.in-Ok.part.value
-    c.in-Ok-name.part.value c.in-Err-list_in_brackets.fault c.in-Some.ensures c.in-Some-accept_word.ensures
-    c.in-Ok.ensures c.in-Some-accept_word-2.ensures c.in-Ok-name.ensures c.in-Err-list_in_brackets.ensures
+returns-in_default c =
+    create_index_read (search (steps, c.in_default.ensures))
+
+pub returns-in_default-accept_word : goal.returns-in_default-accept_word
+unfolding elements
+returns-in_default-accept_word c =
+    create_index_read (search (steps, c.in-Some.ensures, c.in_default-accept_word.ensures))
+
+pub returns-in_err-index : goal.returns-in_err-index
+unfolding elements
+returns-in_err-index c =
+    create_index_read (comes_passed c.in_err-index.field-0.0 (grind (arith, c.from_residual.ensures))
+    (search (steps, c.in-Some.ensures, c.in-Some-accept_word.ensures, c.in_err-index.ensures) depth 10))
+
+pub returns-in_default-accept_word-2 : goal.returns-in_default-accept_word-2
+unfolding elements
+returns-in_default-accept_word-2 c =
+    create_index_read (search (
+      steps,
+      c.in-Some.ensures,
+      c.in-Some-accept_word.ensures,
+      c.in_ok-index.ensures,
+      c.in_default-accept_word-2.ensures,
+    ) depth 12)
+
+pub returns-in_err-table : goal.returns-in_err-table
+unfolding elements
+returns-in_err-table c =
+    create_index_read (comes_passed c.in_err-table.field-0.0 (grind (arith, c.from_residual-in_err-table.ensures))
+    (search (
+      steps,
+      c.in-Some.ensures,
+      c.in-Some-accept_word.ensures,
+      c.in_ok-index.ensures,
+      c.in-Some-accept_word-2.ensures,
+      c.in_err-table.ensures,
+    ) depth 14))
+
+pub returns-in_err-elements : goal.returns-in_err-elements
+unfolding elements
+returns-in_err-elements c =
+    create_index_read (comes_passed c.in_err-elements.field-0.0 (grind (arith, c.from_residual-in_err-elements.ensures))
+    (search (
+      steps,
+      c.in-Some.ensures,
+      c.in-Some-accept_word.ensures,
+      c.in_ok-index.ensures,
+      c.in-Some-accept_word-2.ensures,
+      c.in_ok-table.ensures,
+      c.in_err-elements.ensures,
+    ) depth 16))
+
+pub returns-in_err-predicate : goal.returns-in_err-predicate
+unfolding elements
+returns-in_err-predicate c =
+    create_index_read (comes_passed c.in_err-predicate.field-0.0 (grind (arith, c.from_residual-in_err-predicate.ensures))
+    (search (
+      steps,
+      c.in-Some.ensures,
+      c.in-Some-accept_word.ensures,
+      c.in_ok-index.ensures,
+      c.in-Some-accept_word-2.ensures,
+      c.in_ok-table.ensures,
+      c.in_ok-elements.ensures,
+      c.in_err-predicate.ensures,
+    ) depth 18))
 
 pub returns : goal.returns
 unfolding elements
 returns c =
-    create_index_condition_failed c.args.tokens.now c.in-Some.rest.now c.in-Some-accept_word.rest.now
-    c.in-Ok.part.rest.now c.in-Some-accept_word-2.rest.now c.in-Ok-name.part.rest.now
-    c.in-Ok-list_in_brackets.part.rest.now c.in-Ok.part.value c.in-Ok-name.part.value
-    c.in-Ok-list_in_brackets.part.value c.in-Err-condition.fault c.in-Some.ensures c.in-Some-accept_word.ensures
-    c.in-Ok.ensures c.in-Some-accept_word-2.ensures c.in-Ok-name.ensures c.in-Ok-list_in_brackets.ensures
-    c.in-Err-condition.ensures
-
-pub returns-in-Ok-condition : goal.returns-in-Ok-condition
-unfolding elements
-returns-in-Ok-condition c =
-    create_index_whole c.args.tokens.now c.in-Some.rest.now c.in-Some-accept_word.rest.now c.in-Ok.part.rest.now
-    c.in-Some-accept_word-2.rest.now c.in-Ok-name.part.rest.now c.in-Ok-list_in_brackets.part.rest.now
-    c.in-Ok-condition.field-0.rest.now c.in-Ok.part.value c.in-Ok-name.part.value c.in-Ok-list_in_brackets.part.value
-    c.in-Ok-condition.field-0.value c.in-Some.ensures c.in-Some-accept_word.ensures c.in-Ok.ensures
-    c.in-Some-accept_word-2.ensures c.in-Ok-name.ensures c.in-Ok-list_in_brackets.ensures c.in-Ok-condition.ensures
+    create_index_read (search (
+      steps,
+      c.in-Some.ensures,
+      c.in-Some-accept_word.ensures,
+      c.in_ok-index.ensures,
+      c.in-Some-accept_word-2.ensures,
+      c.in_ok-table.ensures,
+      c.in_ok-elements.ensures,
+      c.in_ok-predicate.ensures,
+    ) depth 20)

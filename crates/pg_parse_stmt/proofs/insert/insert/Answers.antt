@@ -1,44 +1,75 @@
-use Rattle.pg_parse_stmt.proofs.Inserts.{insert_alias_failed, insert_columns_failed, insert_rows_failed, insert_conflict_failed, insert_returning_failed, insert_whole}
+use Rattle.std.proofs.Common.{arith}
+use Rattle.pg_grammar.proofs.Reading.{steps, comes_passed}
+use Rattle.pg_parse_stmt.proofs.InsertRules.{insert_read}
 use Rattle.pg_parse_stmt.proofs.insert.insert.Goals as goal
 
-pub returns-in-Err-as_name : goal.returns-in-Err-as_name
-returns-in-Err-as_name c =
-    insert_alias_failed c.args.tokens.now c.in-Some.rest.now c.in-Ok.part.rest.now c.in-Ok.part.value
-    c.in-Err-as_name.fault c.in-Some.ensures c.in-Ok.ensures c.in-Err-as_name.ensures
+pub returns-in_default : goal.returns-in_default
+returns-in_default c =
+    insert_read (search (steps, c.in_default.ensures))
 
-pub returns-in-Err-columns : goal.returns-in-Err-columns
-returns-in-Err-columns c =
-    insert_columns_failed c.args.tokens.now c.in-Some.rest.now c.in-Ok.part.rest.now c.in-Ok-as_name.part.rest.now
-    c.in-Ok.part.value c.in-Ok-as_name.part.value c.in-Err-columns.fault c.in-Some.ensures c.in-Ok.ensures
-    c.in-Ok-as_name.ensures c.in-Err-columns.ensures
+pub returns-in_err-table : goal.returns-in_err-table
+returns-in_err-table c =
+    insert_read (comes_passed c.in_err-table.field-0.0 (grind (arith, c.from_residual.ensures))
+    (search (steps, c.in-Some.ensures, c.in_err-table.ensures)))
 
-pub returns-in-Err-rows : goal.returns-in-Err-rows
-returns-in-Err-rows c =
-    insert_rows_failed c.args.tokens.now c.in-Some.rest.now c.in-Ok.part.rest.now c.in-Ok-as_name.part.rest.now
-    c.in-Ok-columns.part.rest.now c.in-Ok.part.value c.in-Ok-as_name.part.value c.in-Ok-columns.part.value
-    c.in-Err-rows.fault c.in-Some.ensures c.in-Ok.ensures c.in-Ok-as_name.ensures c.in-Ok-columns.ensures
-    c.in-Err-rows.ensures
+pub returns-in_err-alias : goal.returns-in_err-alias
+returns-in_err-alias c =
+    insert_read (comes_passed c.in_err-alias.field-0.0 (grind (arith, c.from_residual-in_err-alias.ensures))
+    (search (steps, c.in-Some.ensures, c.in_ok-table.ensures, c.in_err-alias.ensures) depth 10))
 
-pub returns-in-Err-conflict : goal.returns-in-Err-conflict
-returns-in-Err-conflict c =
-    insert_conflict_failed c.args.tokens.now c.in-Some.rest.now c.in-Ok.part.rest.now c.in-Ok-as_name.part.rest.now
-    c.in-Ok-columns.part.rest.now c.in-Ok-rows.part.rest.now c.in-Ok.part.value c.in-Ok-as_name.part.value
-    c.in-Ok-columns.part.value c.in-Ok-rows.part.value c.in-Err-conflict.fault c.in-Some.ensures c.in-Ok.ensures
-    c.in-Ok-as_name.ensures c.in-Ok-columns.ensures c.in-Ok-rows.ensures c.in-Err-conflict.ensures
+pub returns-in_err-columns : goal.returns-in_err-columns
+returns-in_err-columns c =
+    insert_read (comes_passed c.in_err-columns.field-0.0 (grind (arith, c.from_residual-in_err-columns.ensures))
+    (search (steps, c.in-Some.ensures, c.in_ok-table.ensures, c.in_ok-alias.ensures, c.in_err-columns.ensures) depth 12))
+
+pub returns-in_err-rows : goal.returns-in_err-rows
+returns-in_err-rows c =
+    insert_read (comes_passed c.in_err-rows.field-0.0 (grind (arith, c.from_residual-in_err-rows.ensures))
+    (search (
+      steps,
+      c.in-Some.ensures,
+      c.in_ok-table.ensures,
+      c.in_ok-alias.ensures,
+      c.in_ok-columns.ensures,
+      c.in_err-rows.ensures,
+    ) depth 14))
+
+pub returns-in_err-conflict : goal.returns-in_err-conflict
+returns-in_err-conflict c =
+    insert_read (comes_passed c.in_err-conflict.field-0.0 (grind (arith, c.from_residual-in_err-conflict.ensures))
+    (search (
+      steps,
+      c.in-Some.ensures,
+      c.in_ok-table.ensures,
+      c.in_ok-alias.ensures,
+      c.in_ok-columns.ensures,
+      c.in_ok-rows.ensures,
+      c.in_err-conflict.ensures,
+    ) depth 16))
+
+pub returns-in_err-returning : goal.returns-in_err-returning
+returns-in_err-returning c =
+    insert_read (comes_passed c.in_err-returning.field-0.0 (grind (arith, c.from_residual-in_err-returning.ensures))
+    (search (
+      steps,
+      c.in-Some.ensures,
+      c.in_ok-table.ensures,
+      c.in_ok-alias.ensures,
+      c.in_ok-columns.ensures,
+      c.in_ok-rows.ensures,
+      c.in_ok-conflict.ensures,
+      c.in_err-returning.ensures,
+    ) depth 18))
 
 pub returns : goal.returns
 returns c =
-    insert_returning_failed c.args.tokens.now c.in-Some.rest.now c.in-Ok.part.rest.now c.in-Ok-as_name.part.rest.now
-    c.in-Ok-columns.part.rest.now c.in-Ok-rows.part.rest.now c.in-Ok-conflict.part.rest.now c.in-Ok.part.value
-    c.in-Ok-as_name.part.value c.in-Ok-columns.part.value c.in-Ok-rows.part.value c.in-Ok-conflict.part.value
-    c.in-Err-returning.fault c.in-Some.ensures c.in-Ok.ensures c.in-Ok-as_name.ensures c.in-Ok-columns.ensures
-    c.in-Ok-rows.ensures c.in-Ok-conflict.ensures c.in-Err-returning.ensures
-
-pub returns-in-Ok-returning : goal.returns-in-Ok-returning
-returns-in-Ok-returning c =
-    insert_whole c.args.tokens.now c.in-Some.rest.now c.in-Ok.part.rest.now c.in-Ok-as_name.part.rest.now
-    c.in-Ok-columns.part.rest.now c.in-Ok-rows.part.rest.now c.in-Ok-conflict.part.rest.now
-    c.in-Ok-returning.field-0.rest.now c.in-Ok.part.value c.in-Ok-as_name.part.value c.in-Ok-columns.part.value
-    c.in-Ok-rows.part.value c.in-Ok-conflict.part.value c.in-Ok-returning.field-0.value c.in-Some.ensures
-    c.in-Ok.ensures c.in-Ok-as_name.ensures c.in-Ok-columns.ensures c.in-Ok-rows.ensures c.in-Ok-conflict.ensures
-    c.in-Ok-returning.ensures
+    insert_read (search (
+      steps,
+      c.in-Some.ensures,
+      c.in_ok-table.ensures,
+      c.in_ok-alias.ensures,
+      c.in_ok-columns.ensures,
+      c.in_ok-rows.ensures,
+      c.in_ok-conflict.ensures,
+      c.in_ok-returning.ensures,
+    ) depth 20)

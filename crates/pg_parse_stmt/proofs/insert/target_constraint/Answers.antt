@@ -1,12 +1,21 @@
-use Rattle.pg_parse_stmt.proofs.Inserts.{target_constraint_name_failed, target_constraint_whole}
+use Rattle.std.proofs.Common.{arith}
+use Rattle.pg_grammar.proofs.Reading.{steps, comes_passed}
+use Rattle.pg_parse_stmt.proofs.PartRules.{target_constraint_read}
 use Rattle.pg_parse_stmt.proofs.insert.target_constraint.Goals as goal
 
-pub returns-in-Ok : goal.returns-in-Ok
-returns-in-Ok c =
-    target_constraint_whole c.args.tokens.now c.in-Some.rest.now c.in-Some-accept_word.rest.now c.in-Ok.field-0.rest.now
-    c.in-Ok.field-0.value c.in-Some.ensures c.in-Some-accept_word.ensures c.in-Ok.ensures
+pub returns-in_default : goal.returns-in_default
+returns-in_default c =
+    target_constraint_read (search (steps, c.in_default.ensures))
 
-pub returns-in-Err : goal.returns-in-Err
-returns-in-Err c =
-    target_constraint_name_failed c.args.tokens.now c.in-Some.rest.now c.in-Some-accept_word.rest.now c.in-Err.fault
-    c.in-Some.ensures c.in-Some-accept_word.ensures c.in-Err.ensures
+pub returns-in_default-accept_word : goal.returns-in_default-accept_word
+returns-in_default-accept_word c =
+    target_constraint_read (search (steps, c.in-Some.ensures, c.in_default-accept_word.ensures))
+
+pub returns-in_err-value : goal.returns-in_err-value
+returns-in_err-value c =
+    target_constraint_read (comes_passed c.in_err-value.field-0.0 (grind (arith, c.from_residual.ensures))
+    (search (steps, c.in-Some.ensures, c.in-Some-accept_word.ensures, c.in_err-value.ensures) depth 10))
+
+pub returns : goal.returns
+returns c =
+    target_constraint_read (search (steps, c.in-Some.ensures, c.in-Some-accept_word.ensures, c.in_ok-value.ensures) depth 12)

@@ -1,24 +1,45 @@
+use Rattle.std.proofs.Common.{arith}
+use Rattle.pg_grammar.proofs.Reading.{steps, comes_passed}
 use Rattle.pg_parse_stmt.specs.Grammar.{sets}
 use Rattle.pg_parse_stmt.specs.Behind.{behind_sets}
-use Rattle.pg_parse_stmt.proofs.Inserts.{upsert_sets_failed, upsert_condition_failed, upsert_whole}
+use Rattle.pg_parse_stmt.proofs.PartRules.{upsert_read}
 use Rattle.pg_parse_stmt.proofs.insert.upsert.Goals as goal
 
-pub returns-in-Err : goal.returns-in-Err
+pub returns-in_default : goal.returns-in_default
 unfolding sets behind_sets
-returns-in-Err c =
-    upsert_sets_failed c.args.target c.args.tokens.now c.in-Some.rest.now c.in-Some-accept_word.rest.now c.in-Err.fault
-    c.in-Some.ensures c.in-Some-accept_word.ensures c.in-Err.ensures
+returns-in_default c =
+    upsert_read (search (steps, c.in_default.ensures))
 
-pub returns-in-Ok-condition : goal.returns-in-Ok-condition
+pub returns-in_default-accept_word : goal.returns-in_default-accept_word
 unfolding sets behind_sets
-returns-in-Ok-condition c =
-    upsert_whole c.args.target c.args.tokens.now c.in-Some.rest.now c.in-Some-accept_word.rest.now c.in-Ok.part.rest.now
-    c.in-Ok-condition.field-0.rest.now c.in-Ok.part.value c.in-Ok-condition.field-0.value c.in-Some.ensures
-    c.in-Some-accept_word.ensures c.in-Ok.ensures c.in-Ok-condition.ensures
+returns-in_default-accept_word c =
+    upsert_read (search (steps, c.in-Some.ensures, c.in_default-accept_word.ensures))
+
+pub returns-in_err-sets : goal.returns-in_err-sets
+unfolding sets behind_sets
+returns-in_err-sets c =
+    upsert_read (comes_passed c.in_err-sets.field-0.0 (grind (arith, c.from_residual.ensures))
+    (search (steps, c.in-Some.ensures, c.in-Some-accept_word.ensures, c.in_err-sets.ensures) depth 10))
+
+pub returns-in_err-condition : goal.returns-in_err-condition
+unfolding sets behind_sets
+returns-in_err-condition c =
+    upsert_read (comes_passed c.in_err-condition.field-0.0 (grind (arith, c.from_residual-in_err-condition.ensures))
+    (search (
+      steps,
+      c.in-Some.ensures,
+      c.in-Some-accept_word.ensures,
+      c.in_ok-sets.ensures,
+      c.in_err-condition.ensures,
+    ) depth 12))
 
 pub returns : goal.returns
 unfolding sets behind_sets
 returns c =
-    upsert_condition_failed c.args.target c.args.tokens.now c.in-Some.rest.now c.in-Some-accept_word.rest.now
-    c.in-Ok.part.rest.now c.in-Ok.part.value c.in-Err-condition.fault c.in-Some.ensures c.in-Some-accept_word.ensures
-    c.in-Ok.ensures c.in-Err-condition.ensures
+    upsert_read (search (
+      steps,
+      c.in-Some.ensures,
+      c.in-Some-accept_word.ensures,
+      c.in_ok-sets.ensures,
+      c.in_ok-condition.ensures,
+    ) depth 14)

@@ -1,52 +1,95 @@
-use Rattle.std.proofs.Common.{refl}
-use Rattle.pg_parse_stmt.proofs.Merges.{merge_no_using, merge_source_failed, merge_no_on, merge_condition_failed, merge_whens_failed, merge_returning_failed, merge_whole}
+use Rattle.std.proofs.Common.{arith}
+use Rattle.pg_grammar.proofs.Reading.{steps, comes_passed}
+use Rattle.pg_parse_stmt.proofs.StatementRules.{merge_read}
 use Rattle.pg_parse_stmt.proofs.merge.merge.Goals as goal
 
-pub returns-in-None-accept_word : goal.returns-in-None-accept_word
-returns-in-None-accept_word c =
-    merge_no_using c.args.tokens.now c.in-Some.rest.now c.in-Ok.part.rest.now c.in-Ok.part.value _ c.in-Some.ensures
-    c.in-Ok.ensures c.in-None-accept_word.ensures refl
+pub returns-in_default : goal.returns-in_default
+returns-in_default c =
+    merge_read (search (steps, c.in_default.ensures))
 
-pub returns-in-Err-read : goal.returns-in-Err-read
-returns-in-Err-read c =
-    merge_source_failed c.args.tokens.now c.in-Some.rest.now c.in-Ok.part.rest.now c.in-Some-accept_word.rest.now
-    c.in-Ok.part.value c.in-Err-read.fault c.in-Some.ensures c.in-Ok.ensures c.in-Some-accept_word.ensures
-    c.in-Err-read.ensures.reads
+pub returns-in_err-target : goal.returns-in_err-target
+returns-in_err-target c =
+    merge_read (comes_passed c.in_err-target.field-0.0 (grind (arith, c.from_residual.ensures))
+    (search (steps, c.in-Some.ensures, c.in_err-target.ensures)))
 
-pub returns-in-None-accept_word-2 : goal.returns-in-None-accept_word-2
-returns-in-None-accept_word-2 c =
-    merge_no_on c.args.tokens.now c.in-Some.rest.now c.in-Ok.part.rest.now c.in-Some-accept_word.rest.now
-    c.in-Ok-read.part.rest.now c.in-Ok.part.value c.in-Ok-read.part.value _ c.in-Some.ensures c.in-Ok.ensures
-    c.in-Some-accept_word.ensures c.in-Ok-read.ensures.reads c.in-None-accept_word-2.ensures refl
+pub returns-in_default-accept_word : goal.returns-in_default-accept_word
+returns-in_default-accept_word c =
+    merge_read (search (steps, c.in-Some.ensures, c.in_ok-target.ensures, c.in_default-accept_word.ensures) depth 10)
 
-pub returns-in-Err-expr : goal.returns-in-Err-expr
-returns-in-Err-expr c =
-    merge_condition_failed c.args.tokens.now c.in-Some.rest.now c.in-Ok.part.rest.now c.in-Some-accept_word.rest.now
-    c.in-Ok-read.part.rest.now c.in-Some-accept_word-2.rest.now c.in-Ok.part.value c.in-Ok-read.part.value
-    c.in-Err-expr.fault c.in-Some.ensures c.in-Ok.ensures c.in-Some-accept_word.ensures c.in-Ok-read.ensures.reads
-    c.in-Some-accept_word-2.ensures c.in-Err-expr.ensures
+pub returns-in_err-source : goal.returns-in_err-source
+returns-in_err-source c =
+    merge_read (comes_passed c.in_err-source.field-0.0 (grind (arith, c.from_residual-in_err-source.ensures))
+    (search (
+      steps,
+      c.in-Some.ensures,
+      c.in_ok-target.ensures,
+      c.in-Some-accept_word.ensures,
+      c.in_err-source.ensures.reads,
+    ) depth 12))
 
-pub returns-in-Err-whens : goal.returns-in-Err-whens
-returns-in-Err-whens c =
-    merge_whens_failed c.args.tokens.now c.in-Some.rest.now c.in-Ok.part.rest.now c.in-Some-accept_word.rest.now
-    c.in-Ok-read.part.rest.now c.in-Some-accept_word-2.rest.now c.in-Ok-expr.part.rest.now c.in-Ok.part.value
-    c.in-Ok-read.part.value c.in-Ok-expr.part.value c.in-Err-whens.fault c.in-Some.ensures c.in-Ok.ensures
-    c.in-Some-accept_word.ensures c.in-Ok-read.ensures.reads c.in-Some-accept_word-2.ensures c.in-Ok-expr.ensures
-    c.in-Err-whens.ensures
+pub returns-in_default-accept_word-2 : goal.returns-in_default-accept_word-2
+returns-in_default-accept_word-2 c =
+    merge_read (search (
+      steps,
+      c.in-Some.ensures,
+      c.in_ok-target.ensures,
+      c.in-Some-accept_word.ensures,
+      c.in_ok-source.ensures.reads,
+      c.in_default-accept_word-2.ensures,
+    ) depth 14)
+
+pub returns-in_err-on : goal.returns-in_err-on
+returns-in_err-on c =
+    merge_read (comes_passed c.in_err-on.field-0.0 (grind (arith, c.from_residual-in_err-on.ensures))
+    (search (
+      steps,
+      c.in-Some.ensures,
+      c.in_ok-target.ensures,
+      c.in-Some-accept_word.ensures,
+      c.in_ok-source.ensures.reads,
+      c.in-Some-accept_word-2.ensures,
+      c.in_err-on.ensures,
+    ) depth 16))
+
+pub returns-in_err-clauses : goal.returns-in_err-clauses
+returns-in_err-clauses c =
+    merge_read (comes_passed c.in_err-clauses.field-0.0 (grind (arith, c.from_residual-in_err-clauses.ensures))
+    (search (
+      steps,
+      c.in-Some.ensures,
+      c.in_ok-target.ensures,
+      c.in-Some-accept_word.ensures,
+      c.in_ok-source.ensures.reads,
+      c.in-Some-accept_word-2.ensures,
+      c.in_ok-on.ensures,
+      c.in_err-clauses.ensures,
+    ) depth 18))
+
+pub returns-in_err-returning : goal.returns-in_err-returning
+returns-in_err-returning c =
+    merge_read (comes_passed c.in_err-returning.field-0.0 (grind (arith, c.from_residual-in_err-returning.ensures))
+    (search (
+      steps,
+      c.in-Some.ensures,
+      c.in_ok-target.ensures,
+      c.in-Some-accept_word.ensures,
+      c.in_ok-source.ensures.reads,
+      c.in-Some-accept_word-2.ensures,
+      c.in_ok-on.ensures,
+      c.in_ok-clauses.ensures,
+      c.in_err-returning.ensures,
+    ) depth 20))
 
 pub returns : goal.returns
 returns c =
-    merge_returning_failed c.args.tokens.now c.in-Some.rest.now c.in-Ok.part.rest.now c.in-Some-accept_word.rest.now
-    c.in-Ok-read.part.rest.now c.in-Some-accept_word-2.rest.now c.in-Ok-expr.part.rest.now c.in-Ok-whens.part.rest.now
-    c.in-Ok.part.value c.in-Ok-read.part.value c.in-Ok-expr.part.value c.in-Ok-whens.part.value c.in-Err-returning.fault
-    c.in-Some.ensures c.in-Ok.ensures c.in-Some-accept_word.ensures c.in-Ok-read.ensures.reads
-    c.in-Some-accept_word-2.ensures c.in-Ok-expr.ensures c.in-Ok-whens.ensures c.in-Err-returning.ensures
-
-pub returns-in-Ok-returning : goal.returns-in-Ok-returning
-returns-in-Ok-returning c =
-    merge_whole c.args.tokens.now c.in-Some.rest.now c.in-Ok.part.rest.now c.in-Some-accept_word.rest.now
-    c.in-Ok-read.part.rest.now c.in-Some-accept_word-2.rest.now c.in-Ok-expr.part.rest.now c.in-Ok-whens.part.rest.now
-    c.in-Ok-returning.field-0.rest.now c.in-Ok.part.value c.in-Ok-read.part.value c.in-Ok-expr.part.value
-    c.in-Ok-whens.part.value c.in-Ok-returning.field-0.value c.in-Some.ensures c.in-Ok.ensures
-    c.in-Some-accept_word.ensures c.in-Ok-read.ensures.reads c.in-Some-accept_word-2.ensures c.in-Ok-expr.ensures
-    c.in-Ok-whens.ensures c.in-Ok-returning.ensures
+    merge_read (search (
+      steps,
+      c.in-Some.ensures,
+      c.in_ok-target.ensures,
+      c.in-Some-accept_word.ensures,
+      c.in_ok-source.ensures.reads,
+      c.in-Some-accept_word-2.ensures,
+      c.in_ok-on.ensures,
+      c.in_ok-clauses.ensures,
+      c.in_ok-returning.ensures,
+    ) depth 22)

@@ -1,52 +1,85 @@
+use Rattle.std.proofs.Common.{arith}
+use Rattle.pg_grammar.proofs.Reading.{steps, comes_passed}
 use Rattle.pg_parse_stmt.specs.Grammar.{items}
 use Rattle.pg_parse_stmt.specs.Behind.{behind_items}
-use Rattle.pg_parse_stmt.proofs.Selects.{select_sources_failed, select_condition_failed, select_order_failed, select_limit_failed, select_locking_failed, select_whole}
+use Rattle.pg_parse_stmt.proofs.StatementRules.{select_read}
 use Rattle.pg_parse_stmt.proofs.select.select.Goals as goal
 
-pub returns-in-Err-sources : goal.returns-in-Err-sources
+pub returns-in_err-items : goal.returns-in_err-items
 unfolding items behind_items
-returns-in-Err-sources c =
-    select_sources_failed c.args.tokens.now c.in-Ok.part.rest.now c.in-Some.rest.now c.in-Ok.part.value
-    c.in-Err-sources.fault c.in-Ok.ensures c.in-Some.ensures c.in-Err-sources.ensures
+returns-in_err-items c =
+    select_read (comes_passed c.in_err-items.field-0.0 (grind (arith, c.from_residual.ensures))
+    (search (steps, c.in_err-items.ensures)))
 
-pub returns-in-Err-condition : goal.returns-in-Err-condition
+pub returns-in_default : goal.returns-in_default
 unfolding items behind_items
-returns-in-Err-condition c =
-    select_condition_failed c.args.tokens.now c.in-Ok.part.rest.now c.in-Some.rest.now c.in-Ok-sources.part.rest.now
-    c.in-Ok.part.value c.in-Ok-sources.part.value c.in-Err-condition.fault c.in-Ok.ensures c.in-Some.ensures
-    c.in-Ok-sources.ensures c.in-Err-condition.ensures
+returns-in_default c =
+    select_read (search (steps, c.in_ok-items.ensures, c.in_default.ensures))
 
-pub returns-in-Err-order : goal.returns-in-Err-order
+pub returns-in_err-from : goal.returns-in_err-from
 unfolding items behind_items
-returns-in-Err-order c =
-    select_order_failed c.args.tokens.now c.in-Ok.part.rest.now c.in-Some.rest.now c.in-Ok-sources.part.rest.now
-    c.in-Ok-condition.part.rest.now c.in-Ok.part.value c.in-Ok-sources.part.value c.in-Ok-condition.part.value
-    c.in-Err-order.fault c.in-Ok.ensures c.in-Some.ensures c.in-Ok-sources.ensures c.in-Ok-condition.ensures
-    c.in-Err-order.ensures
+returns-in_err-from c =
+    select_read (comes_passed c.in_err-from.field-0.0 (grind (arith, c.from_residual-in_err-from.ensures))
+    (search (steps, c.in_ok-items.ensures, c.in-Some.ensures, c.in_err-from.ensures) depth 10))
 
-pub returns-in-Err-limit : goal.returns-in-Err-limit
+pub returns-in_err-condition : goal.returns-in_err-condition
 unfolding items behind_items
-returns-in-Err-limit c =
-    select_limit_failed c.args.tokens.now c.in-Ok.part.rest.now c.in-Some.rest.now c.in-Ok-sources.part.rest.now
-    c.in-Ok-condition.part.rest.now c.in-Ok-order.part.rest.now c.in-Ok.part.value c.in-Ok-sources.part.value
-    c.in-Ok-condition.part.value c.in-Ok-order.part.value c.in-Err-limit.fault c.in-Ok.ensures c.in-Some.ensures
-    c.in-Ok-sources.ensures c.in-Ok-condition.ensures c.in-Ok-order.ensures c.in-Err-limit.ensures
+returns-in_err-condition c =
+    select_read (comes_passed c.in_err-condition.field-0.0 (grind (arith, c.from_residual-in_err-condition.ensures))
+    (search (steps, c.in_ok-items.ensures, c.in-Some.ensures, c.in_ok-from.ensures, c.in_err-condition.ensures) depth 12))
+
+pub returns-in_err-order : goal.returns-in_err-order
+unfolding items behind_items
+returns-in_err-order c =
+    select_read (comes_passed c.in_err-order.field-0.0 (grind (arith, c.from_residual-in_err-order.ensures))
+    (search (
+      steps,
+      c.in_ok-items.ensures,
+      c.in-Some.ensures,
+      c.in_ok-from.ensures,
+      c.in_ok-condition.ensures,
+      c.in_err-order.ensures,
+    ) depth 14))
+
+pub returns-in_err-limit : goal.returns-in_err-limit
+unfolding items behind_items
+returns-in_err-limit c =
+    select_read (comes_passed c.in_err-limit.field-0.0 (grind (arith, c.from_residual-in_err-limit.ensures))
+    (search (
+      steps,
+      c.in_ok-items.ensures,
+      c.in-Some.ensures,
+      c.in_ok-from.ensures,
+      c.in_ok-condition.ensures,
+      c.in_ok-order.ensures,
+      c.in_err-limit.ensures,
+    ) depth 16))
+
+pub returns-in_err-locking : goal.returns-in_err-locking
+unfolding items behind_items
+returns-in_err-locking c =
+    select_read (comes_passed c.in_err-locking.field-0.0 (grind (arith, c.from_residual-in_err-locking.ensures))
+    (search (
+      steps,
+      c.in_ok-items.ensures,
+      c.in-Some.ensures,
+      c.in_ok-from.ensures,
+      c.in_ok-condition.ensures,
+      c.in_ok-order.ensures,
+      c.in_ok-limit.ensures,
+      c.in_err-locking.ensures,
+    ) depth 18))
 
 pub returns : goal.returns
 unfolding items behind_items
 returns c =
-    select_locking_failed c.args.tokens.now c.in-Ok.part.rest.now c.in-Some.rest.now c.in-Ok-sources.part.rest.now
-    c.in-Ok-condition.part.rest.now c.in-Ok-order.part.rest.now c.in-Ok-limit.part.rest.now c.in-Ok.part.value
-    c.in-Ok-sources.part.value c.in-Ok-condition.part.value c.in-Ok-order.part.value c.in-Ok-limit.part.value
-    c.in-Err-locking.fault c.in-Ok.ensures c.in-Some.ensures c.in-Ok-sources.ensures c.in-Ok-condition.ensures
-    c.in-Ok-order.ensures c.in-Ok-limit.ensures c.in-Err-locking.ensures
-
-pub returns-in-Ok-locking : goal.returns-in-Ok-locking
-unfolding items behind_items
-returns-in-Ok-locking c =
-    select_whole c.args.tokens.now c.in-Ok.part.rest.now c.in-Some.rest.now c.in-Ok-sources.part.rest.now
-    c.in-Ok-condition.part.rest.now c.in-Ok-order.part.rest.now c.in-Ok-limit.part.rest.now
-    c.in-Ok-locking.field-0.rest.now c.in-Ok.part.value c.in-Ok-sources.part.value c.in-Ok-condition.part.value
-    c.in-Ok-order.part.value c.in-Ok-limit.part.value c.in-Ok-locking.field-0.value c.in-Ok.ensures c.in-Some.ensures
-    c.in-Ok-sources.ensures c.in-Ok-condition.ensures c.in-Ok-order.ensures c.in-Ok-limit.ensures
-    c.in-Ok-locking.ensures
+    select_read (search (
+      steps,
+      c.in_ok-items.ensures,
+      c.in-Some.ensures,
+      c.in_ok-from.ensures,
+      c.in_ok-condition.ensures,
+      c.in_ok-order.ensures,
+      c.in_ok-limit.ensures,
+      c.in_ok-locking.ensures,
+    ) depth 20)

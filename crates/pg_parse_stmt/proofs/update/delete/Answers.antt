@@ -1,27 +1,46 @@
-use Rattle.pg_parse_stmt.proofs.Updates.{delete_using_failed, delete_condition_failed, delete_returning_failed, delete_whole}
+use Rattle.std.proofs.Common.{arith}
+use Rattle.pg_grammar.proofs.Reading.{steps, comes_passed}
+use Rattle.pg_parse_stmt.proofs.StatementRules.{delete_read}
 use Rattle.pg_parse_stmt.proofs.update.delete.Goals as goal
 
-pub returns-in-Err-using_list : goal.returns-in-Err-using_list
-returns-in-Err-using_list c =
-    delete_using_failed c.args.tokens.now c.in-Some.rest.now c.in-Ok.part.rest.now c.in-Ok.part.value
-    c.in-Err-using_list.fault c.in-Some.ensures c.in-Ok.ensures c.in-Err-using_list.ensures
+pub returns-in_default : goal.returns-in_default
+returns-in_default c =
+    delete_read (search (steps, c.in_default.ensures))
 
-pub returns-in-Err-condition : goal.returns-in-Err-condition
-returns-in-Err-condition c =
-    delete_condition_failed c.args.tokens.now c.in-Some.rest.now c.in-Ok.part.rest.now c.in-Ok-using_list.part.rest.now
-    c.in-Ok.part.value c.in-Ok-using_list.part.value c.in-Err-condition.fault c.in-Some.ensures c.in-Ok.ensures
-    c.in-Ok-using_list.ensures c.in-Err-condition.ensures
+pub returns-in_err-target : goal.returns-in_err-target
+returns-in_err-target c =
+    delete_read (comes_passed c.in_err-target.field-0.0 (grind (arith, c.from_residual.ensures))
+    (search (steps, c.in-Some.ensures, c.in_err-target.ensures)))
+
+pub returns-in_err-using : goal.returns-in_err-using
+returns-in_err-using c =
+    delete_read (comes_passed c.in_err-using.field-0.0 (grind (arith, c.from_residual-in_err-using.ensures))
+    (search (steps, c.in-Some.ensures, c.in_ok-target.ensures, c.in_err-using.ensures) depth 10))
+
+pub returns-in_err-condition : goal.returns-in_err-condition
+returns-in_err-condition c =
+    delete_read (comes_passed c.in_err-condition.field-0.0 (grind (arith, c.from_residual-in_err-condition.ensures))
+    (search (steps, c.in-Some.ensures, c.in_ok-target.ensures, c.in_ok-using.ensures, c.in_err-condition.ensures) depth 12))
+
+pub returns-in_err-returning : goal.returns-in_err-returning
+returns-in_err-returning c =
+    delete_read (comes_passed c.in_err-returning.field-0.0 (grind (arith, c.from_residual-in_err-returning.ensures))
+    (search (
+      steps,
+      c.in-Some.ensures,
+      c.in_ok-target.ensures,
+      c.in_ok-using.ensures,
+      c.in_ok-condition.ensures,
+      c.in_err-returning.ensures,
+    ) depth 14))
 
 pub returns : goal.returns
 returns c =
-    delete_returning_failed c.args.tokens.now c.in-Some.rest.now c.in-Ok.part.rest.now c.in-Ok-using_list.part.rest.now
-    c.in-Ok-condition.part.rest.now c.in-Ok.part.value c.in-Ok-using_list.part.value c.in-Ok-condition.part.value
-    c.in-Err-returning.fault c.in-Some.ensures c.in-Ok.ensures c.in-Ok-using_list.ensures c.in-Ok-condition.ensures
-    c.in-Err-returning.ensures
-
-pub returns-in-Ok-returning : goal.returns-in-Ok-returning
-returns-in-Ok-returning c =
-    delete_whole c.args.tokens.now c.in-Some.rest.now c.in-Ok.part.rest.now c.in-Ok-using_list.part.rest.now
-    c.in-Ok-condition.part.rest.now c.in-Ok-returning.field-0.rest.now c.in-Ok.part.value c.in-Ok-using_list.part.value
-    c.in-Ok-condition.part.value c.in-Ok-returning.field-0.value c.in-Some.ensures c.in-Ok.ensures
-    c.in-Ok-using_list.ensures c.in-Ok-condition.ensures c.in-Ok-returning.ensures
+    delete_read (search (
+      steps,
+      c.in-Some.ensures,
+      c.in_ok-target.ensures,
+      c.in_ok-using.ensures,
+      c.in_ok-condition.ensures,
+      c.in_ok-returning.ensures,
+    ) depth 16)

@@ -1,42 +1,69 @@
+use Rattle.std.proofs.Common.{arith}
+use Rattle.pg_grammar.proofs.Reading.{steps, comes_passed}
 use Rattle.pg_parse_stmt.specs.Grammar.{sets}
 use Rattle.pg_parse_stmt.specs.Behind.{behind_sets}
-use Rattle.pg_parse_stmt.proofs.Updates.{update_sets_failed, update_from_failed, update_condition_failed, update_returning_failed, update_whole}
+use Rattle.pg_parse_stmt.proofs.StatementRules.{update_read}
 use Rattle.pg_parse_stmt.proofs.update.update.Goals as goal
 
-pub returns-in-Err-list : goal.returns-in-Err-list
+pub returns-in_err-target : goal.returns-in_err-target
 unfolding sets behind_sets
-returns-in-Err-list c =
-    update_sets_failed c.args.tokens.now c.in-Ok.part.rest.now c.in-Some.rest.now c.in-Ok.part.value c.in-Err-list.fault
-    c.in-Ok.ensures c.in-Some.ensures c.in-Err-list.ensures
+returns-in_err-target c =
+    update_read (comes_passed c.in_err-target.field-0.0 (grind (arith, c.from_residual.ensures))
+    (search (steps, c.in_err-target.ensures)))
 
-pub returns-in-Err-from_list : goal.returns-in-Err-from_list
+pub returns-in_default : goal.returns-in_default
 unfolding sets behind_sets
-returns-in-Err-from_list c =
-    update_from_failed c.args.tokens.now c.in-Ok.part.rest.now c.in-Some.rest.now c.in-Ok-list.part.rest.now
-    c.in-Ok.part.value c.in-Ok-list.part.value c.in-Err-from_list.fault c.in-Ok.ensures c.in-Some.ensures
-    c.in-Ok-list.ensures c.in-Err-from_list.ensures
+returns-in_default c =
+    update_read (search (steps, c.in_ok-target.ensures, c.in_default.ensures))
 
-pub returns-in-Err-condition : goal.returns-in-Err-condition
+pub returns-in_err-sets : goal.returns-in_err-sets
 unfolding sets behind_sets
-returns-in-Err-condition c =
-    update_condition_failed c.args.tokens.now c.in-Ok.part.rest.now c.in-Some.rest.now c.in-Ok-list.part.rest.now
-    c.in-Ok-from_list.part.rest.now c.in-Ok.part.value c.in-Ok-list.part.value c.in-Ok-from_list.part.value
-    c.in-Err-condition.fault c.in-Ok.ensures c.in-Some.ensures c.in-Ok-list.ensures c.in-Ok-from_list.ensures
-    c.in-Err-condition.ensures
+returns-in_err-sets c =
+    update_read (comes_passed c.in_err-sets.field-0.0 (grind (arith, c.from_residual-in_err-sets.ensures))
+    (search (steps, c.in_ok-target.ensures, c.in-Some.ensures, c.in_err-sets.ensures) depth 10))
+
+pub returns-in_err-from : goal.returns-in_err-from
+unfolding sets behind_sets
+returns-in_err-from c =
+    update_read (comes_passed c.in_err-from.field-0.0 (grind (arith, c.from_residual-in_err-from.ensures))
+    (search (steps, c.in_ok-target.ensures, c.in-Some.ensures, c.in_ok-sets.ensures, c.in_err-from.ensures) depth 12))
+
+pub returns-in_err-condition : goal.returns-in_err-condition
+unfolding sets behind_sets
+returns-in_err-condition c =
+    update_read (comes_passed c.in_err-condition.field-0.0 (grind (arith, c.from_residual-in_err-condition.ensures))
+    (search (
+      steps,
+      c.in_ok-target.ensures,
+      c.in-Some.ensures,
+      c.in_ok-sets.ensures,
+      c.in_ok-from.ensures,
+      c.in_err-condition.ensures,
+    ) depth 14))
+
+pub returns-in_err-returning : goal.returns-in_err-returning
+unfolding sets behind_sets
+returns-in_err-returning c =
+    update_read (comes_passed c.in_err-returning.field-0.0 (grind (arith, c.from_residual-in_err-returning.ensures))
+    (search (
+      steps,
+      c.in_ok-target.ensures,
+      c.in-Some.ensures,
+      c.in_ok-sets.ensures,
+      c.in_ok-from.ensures,
+      c.in_ok-condition.ensures,
+      c.in_err-returning.ensures,
+    ) depth 16))
 
 pub returns : goal.returns
 unfolding sets behind_sets
 returns c =
-    update_returning_failed c.args.tokens.now c.in-Ok.part.rest.now c.in-Some.rest.now c.in-Ok-list.part.rest.now
-    c.in-Ok-from_list.part.rest.now c.in-Ok-condition.part.rest.now c.in-Ok.part.value c.in-Ok-list.part.value
-    c.in-Ok-from_list.part.value c.in-Ok-condition.part.value c.in-Err-returning.fault c.in-Ok.ensures c.in-Some.ensures
-    c.in-Ok-list.ensures c.in-Ok-from_list.ensures c.in-Ok-condition.ensures c.in-Err-returning.ensures
-
-pub returns-in-Ok-returning : goal.returns-in-Ok-returning
-unfolding sets behind_sets
-returns-in-Ok-returning c =
-    update_whole c.args.tokens.now c.in-Ok.part.rest.now c.in-Some.rest.now c.in-Ok-list.part.rest.now
-    c.in-Ok-from_list.part.rest.now c.in-Ok-condition.part.rest.now c.in-Ok-returning.field-0.rest.now
-    c.in-Ok.part.value c.in-Ok-list.part.value c.in-Ok-from_list.part.value c.in-Ok-condition.part.value
-    c.in-Ok-returning.field-0.value c.in-Ok.ensures c.in-Some.ensures c.in-Ok-list.ensures c.in-Ok-from_list.ensures
-    c.in-Ok-condition.ensures c.in-Ok-returning.ensures
+    update_read (search (
+      steps,
+      c.in_ok-target.ensures,
+      c.in-Some.ensures,
+      c.in_ok-sets.ensures,
+      c.in_ok-from.ensures,
+      c.in_ok-condition.ensures,
+      c.in_ok-returning.ensures,
+    ) depth 18)
