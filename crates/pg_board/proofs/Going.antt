@@ -43,7 +43,7 @@ use Rattle.pg_board.specs.declared.session.Session.{Session}
 use Rattle.pg_board.specs.Kept.{act_kept}
 use Rattle.pg_board.specs.Machines.{DoesEntry, GoesOn, IsPlanned, machine_choices}
 use Rattle.pg_board.specs.Servers.{IsMachineOf, IsOfKind, IsProgressOf, IsRunningOf, IsServerOf, IsSessionOf, kept_progress, kept_session, reading_of, running_of}
-use Rattle.pg_board.specs.Steps.{HasActed, HasComeNearer}
+use Rattle.pg_board.specs.Steps.{HasActed, HasReadOn}
 use Rattle.pg_board.proofs.Acts.{committed, failed, replied}
 use Rattle.pg_board.proofs.Lifting.{lifted}
 use Rattle.pg_board.proofs.MachineActs.{found_lifts, inserted_lifts, placed_lifts}
@@ -271,7 +271,7 @@ module _ (script : Script) (server new : Server) (world : World) (number : ℕ) 
           progress = (own, rw is.rest own_is, stands.running, stands.progress, goes.stands stands.running candidates_are stands.machine_is);
         })
 
-    pub nearer_step : HasComeNearer script number world server next
+    pub nearer_step : HasReadOn script number world server next
     nearer_step = record {
       serves = quiet_serves;
       fewer = rw (get_set server.sessions number kept (record kept { place = place_of.Inside behind }) is_kept, is_kept, inside_is) goes.fewer;

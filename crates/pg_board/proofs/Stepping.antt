@@ -30,7 +30,7 @@ use Rattle.pg_board.specs.declared.session.Session.{Session}
 use Rattle.pg_board.specs.Inside.{CanRunGiven, IsInside, IsInsideStep, is_place_inside}
 use Rattle.pg_board.specs.Kept.{CanMove, HasMovedOutside, outside_moves}
 use Rattle.pg_board.specs.Servers.{IsMachineOf, IsProgressOf, IsReady, IsReadingOf, IsRunningOf, IsServerOf, IsSessionOf, kept_progress, kept_session, kept_world, reading_of, running_of}
-use Rattle.pg_board.specs.Steps.{HasActed, HasComeNearer, IsServing, IsStepIn, stands_at_end}
+use Rattle.pg_board.specs.Steps.{HasActed, HasReadOn, IsServing, IsStepIn, stands_at_end}
 use Rattle.pg_board.proofs.Going.{entry_step, failed_step, finished_step, nearer_step}
 use Rattle.pg_board.proofs.Outside.{outside_same, outside_step}
 use Rattle.pg_board.proofs.Rooms.{shown_session, stands_for}
@@ -125,7 +125,7 @@ pub inside_is_step : (script : Script) (server new : Server) (number : ℕ) (kep
     (journal : List Entry) → IsLegal script journal → IsServerOf script server (world_after script journal) →
     IsStepIn script number (world_after script journal) server new acted
 inside_is_step script server new number kept own None there own_is ran journal legal serves =
-    subst (λ s. HasComeNearer script number (world_after script journal) server s)
+    subst (λ s. HasReadOn script number (world_after script journal) server s)
     (sym (ran.new_is ∙ ap (λ t. record server { tables = t; sessions = slice_set server.sessions number (record kept { place = place_of.Inside ran.behind }) }) ran.step.0))
     (nearer_step script server new (world_after script journal) number kept there serves (stable_after script journal legal)
     (tidy_after script journal legal) own own_is ran.machine ran.inside ran.behind ran.step.1)

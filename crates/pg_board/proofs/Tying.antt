@@ -33,7 +33,7 @@ use Rattle.pg_board.specs.Board.{BoardView, MovedBy, first_board, has_ended, is_
 use Rattle.pg_board.specs.Faults.{IsSetUp}
 use Rattle.pg_board.specs.Queues.{AreQueues, has_taken, ready_by}
 use Rattle.pg_board.specs.Servers.{IsFirst, IsProgressOf, IsServerOf, IsSessionOf, first_session, kept_progress, kept_session, kept_world, running_of}
-use Rattle.pg_board.specs.Steps.{HasActed, HasComeNearer, IsServing, place_quiet, stands_at_end}
+use Rattle.pg_board.specs.Steps.{HasActed, HasReadOn, IsServing, place_quiet, stands_at_end}
 use Rattle.pg_board.specs.Tied.{IsTied}
 use Rattle.pg_board.proofs.Quiet.{quiet_bounded}
 use Rattle.pg_board.proofs.Rooms.{pair_of}
@@ -252,7 +252,7 @@ module _ (script : Script) (journal : List Entry) (server new : Server) (queues 
     schedule = refl;
   })
 
-  pub moved_nearer : HasComeNearer script number (world_after script journal) server new →
+  pub moved_nearer : HasReadOn script number (world_after script journal) server new →
       MovedBy number (board_of journal server last) (board_of journal new last)
   moved_nearer nearer = inr (record {
     same = refl;

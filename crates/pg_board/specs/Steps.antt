@@ -45,7 +45,7 @@ pub record HasActed (script : Script) (number : ℕ) (world : World) (new : Serv
       (effect script world (record { session = number; act = act }))
 
 -- the session has come nearer to its next entry, and nothing of the world has changed
-pub record HasComeNearer (script : Script) (number : ℕ) (world : World) (old new : Server) :
+pub record HasReadOn (script : Script) (number : ℕ) (world : World) (old new : Server) :
     Type 0 where
   pub serves : IsServerOf script new world
   pub fewer : quiet_in new number < quiet_in old number
@@ -53,7 +53,7 @@ pub record HasComeNearer (script : Script) (number : ℕ) (world : World) (old n
 
 -- what a step comes to in the world that the server stands for
 abbrev pub IsStepIn : Script → ℕ → World → Server → Server → Option EntryAct → Type 0
-IsStepIn script number world old new None = HasComeNearer script number world old new
+IsStepIn script number world old new None = HasReadOn script number world old new
 IsStepIn script number world old new (Some act) = HasActed script number world new act
 
 -- the session of that number has ended
