@@ -10,9 +10,10 @@
 -- 4. these ask what a part begins with (Starts), that it cannot begin here (Bars), that it has a word (Spelled, Begun):
 --    one lemma a combinator in proofs/Words; a choice by several tokens is leads_left_by, leads_right_by
 -- 5. brackets of any depth by a loop: proofs/Nesting; all of the tokens: reads_whole
--- 6. a rule of several parts is written as data (proofs/Rules), its parts as languages; that it fits is one tuple, and
---    what it begins with, a word of it, its one reading (proofs/Fitting) and each exit of its function come of that:
---    `search` with the `steps` of proofs/Reading and the facts of the steps before the exit
+-- 6. a rule of several parts is written as data (proofs/Rules), its parts as languages; that it fits is found by
+--    `search` from what is known of them, and what it begins with, a word of it and its one reading come of that
+--    (proofs/Fitting); each exit of its function is `search` with the `steps` of proofs/Reading and the facts of the
+--    steps before it
 pub mod Limits
 pub mod Languages
 pub mod Answers

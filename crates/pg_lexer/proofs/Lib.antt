@@ -5,4 +5,5 @@ pub mod Cuts
 pub mod Words
 pub mod Quotes
 pub mod Readings
+pub mod Lines
 pub mod Spans

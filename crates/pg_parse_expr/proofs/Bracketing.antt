@@ -472,3 +472,6 @@ module _ (d : ℕ) where
       (leads_inner n k a xs ys h is).to (failed e)
       (reads_bind_failed (behind_factor_at d a) (closed d k) behind_expr behind_factor ys e r (starts_closed k)
       (spelled_closed k))
+
+-- what a closing bracket answers, and where there is none
+pub ruleset bracket_closings = (closed_refused, closed_last, closed_turn, closed_failed)

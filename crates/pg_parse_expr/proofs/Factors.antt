@@ -119,3 +119,6 @@ module _ (d : ℕ) where
       (subst (λ j. Reads (factor j) behind_factor ys (read a zs)) same r)
       (λ a. starts_gives behind_factor behind_factor (unary Negate a) (λ o h. h)))).to
       (read tree zs) (reads_gives (unary Negate a) tree behind_factor zs h)
+
+-- what a factor answers
+pub ruleset factors = (factor_leaf, factor_deep, factor_failed, factor_read)

@@ -279,3 +279,9 @@ joined_reads L follows xs (Ok p) tree zs e r =
     (subst (λ z. Reads L follows xs (read tree z)) (sym e.1) r)
 joined_reads L follows xs (Err f) tree zs e r =
     subst (λ g. Reads L follows xs (failed g)) (sym e) (reads_memory L follows xs)
+
+-- what one more operator of a chain answers
+pub ruleset chain_steps = (step_deep, step_failed, step_read)
+
+-- what a comparison answers
+pub ruleset compare_steps = (compare_deep, compare_failed, compare_read)

@@ -399,3 +399,15 @@ module _ (d : ℕ) where
       (subst (λ j. Reads (negation factor j) behind_predicate ys (read a zs)) same r)
       (λ a. starts_gives behind_predicate behind_predicate (unary Not a) (λ o h. h)))).to
       (read tree zs) (reads_gives (unary Not a) tree behind_predicate zs h)
+
+-- what one more test answers, and where there is none
+pub ruleset test_turns = (tests_turn, tests_turn_failed, tests_end, test_shorter)
+
+-- what a test answers by its words
+pub ruleset tested_words = (tested_null, tested_refused, tested_no_from, tested_distinct)
+
+-- what NOT, and none, answers
+pub ruleset negations = (negation_plain, negation_deep, negation_failed, negation_read)
+
+-- what IS [NOT] DISTINCT FROM answers
+pub ruleset distinctions = (distinct_failed, distinct_read)

@@ -44,3 +44,9 @@ unfolding opening
 opening_none [] m = refl
 opening_none (Sign sign.Open ∷ _) m = absurd (m.misses refl)
 opening_none (_ ∷ _) m = refl
+
+-- one token weighs little
+pub ruleset weights = (rank_small, opening_small)
+
+-- brackets that open weigh little
+pub ruleset openings = (opening_small, opening_some, opening_none)

@@ -15,9 +15,9 @@ pub(crate) enum Level {
     Product,
 }
 
+#[tactic(auto, unfolding(crate::specs::Operators::or_op, crate::specs::Operators::and_op, crate::specs::Operators::concat_op, crate::specs::Operators::sum_op, crate::specs::Operators::product_op))]
 impl Level {
     /// The level's operator that a token is, if it is one.
-    #[tactic(auto, unfolding(crate::specs::Operators::or_op, crate::specs::Operators::and_op, crate::specs::Operators::concat_op, crate::specs::Operators::sum_op, crate::specs::Operators::product_op))]
     pub(crate) fn op(self, token: &Token) -> Option<BinaryOp>
         ensures { result ≡ op_at self token.now }
     {

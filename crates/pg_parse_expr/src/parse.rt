@@ -104,7 +104,7 @@ fn chain_behind<'a>(
 
 /// One operator of a level behind a tree, and its right operand.
 #[cycle(expr)]
-#[tactic(auto, using(crate::proofs::Steps::step_deep, crate::proofs::Steps::step_failed, crate::proofs::Steps::step_read, crate::proofs::Steps::reads_memory, crate::proofs::Weights::rank_small, crate::proofs::Weights::opening_small))]
+#[tactic(auto, using(crate::proofs::Steps::chain_steps, crate::proofs::Steps::reads_memory, crate::proofs::Weights::weights))]
 fn operation<'a>(
     alloc: Global,
     level: Level,
@@ -174,7 +174,7 @@ fn comparison_behind<'a>(alloc: Global, left: Part<'a, Token, ExprTree>, depth: 
 
 /// A comparison behind a tree, and its right operand.
 #[cycle(expr)]
-#[tactic(auto, using(crate::proofs::Bracketing::chain_concat, crate::proofs::Steps::compare_deep, crate::proofs::Steps::compare_failed, crate::proofs::Steps::compare_read, crate::proofs::Steps::reads_memory, crate::proofs::Weights::rank_small, crate::proofs::Weights::opening_small))]
+#[tactic(auto, using(crate::proofs::Bracketing::chain_concat, crate::proofs::Steps::compare_steps, crate::proofs::Steps::reads_memory, crate::proofs::Weights::weights))]
 fn compared<'a>(
     alloc: Global,
     op: BinaryOp,
@@ -213,7 +213,7 @@ fn predicate<'a>(alloc: Global, tokens: &'a [Token], depth: u32) -> Read<'a>
 
 /// The tests behind a tree.
 #[cycle(expr)]
-#[tactic(auto, using(crate::proofs::Testing::tests_turn, crate::proofs::Testing::tests_turn_failed, crate::proofs::Testing::tests_end, crate::proofs::Testing::test_shorter, crate::proofs::Steps::leads_here))]
+#[tactic(auto, using(crate::proofs::Testing::test_turns, crate::proofs::Steps::leads_here))]
 fn tests_behind<'a>(alloc: Global, first: Part<'a, Token, ExprTree>, depth: u32) -> Read<'a>
     requires { depth + height first.value ≤ 64 }
     ensures reads { Reads (more (test_rule factor_rule depth) first.entry.value) behind_predicate first.entry.rest.now (seen result) }
@@ -275,7 +275,7 @@ fn test<'a>(
 
 /// NULL, or DISTINCT FROM and an operand.
 #[cycle(expr)]
-#[tactic(auto, using(crate::proofs::Testing::tested_null, crate::proofs::Testing::tested_refused, crate::proofs::Testing::tested_no_from, crate::proofs::Testing::tested_distinct, crate::proofs::Steps::reads_memory))]
+#[tactic(auto, using(crate::proofs::Testing::tested_words, crate::proofs::Steps::reads_memory))]
 fn tested<'a>(
     alloc: Global,
     null: UnaryOp,
@@ -304,7 +304,7 @@ fn tested<'a>(
 
 /// The right operand of DISTINCT FROM.
 #[cycle(expr)]
-#[tactic(auto, using(crate::proofs::Bracketing::chain_concat, crate::proofs::Testing::distinct_failed, crate::proofs::Testing::distinct_read, crate::proofs::Steps::reads_memory, crate::proofs::Weights::rank_small, crate::proofs::Weights::opening_small))]
+#[tactic(auto, using(crate::proofs::Bracketing::chain_concat, crate::proofs::Testing::distinctions, crate::proofs::Steps::reads_memory, crate::proofs::Weights::weights))]
 fn distinct_from<'a>(
     alloc: Global,
     distinct: BinaryOp,
@@ -324,7 +324,7 @@ fn distinct_from<'a>(
 
 /// NOT, any number of times, before a predicate.
 #[cycle(expr)]
-#[tactic(auto, using(crate::proofs::Testing::negation_plain, crate::proofs::Testing::negation_deep, crate::proofs::Testing::negation_failed, crate::proofs::Testing::negation_read, crate::proofs::Steps::reads_memory, crate::proofs::Weights::rank_small, crate::proofs::Weights::opening_small))]
+#[tactic(auto, using(crate::proofs::Testing::negations, crate::proofs::Steps::reads_memory, crate::proofs::Weights::weights))]
 fn negation<'a>(alloc: Global, tokens: &'a [Token], depth: u32) -> Read<'a>
     requires { depth ≤ 64 }
     ensures reads { Reads (negation_rule factor_rule depth) behind_predicate tokens.now (seen result) }
@@ -355,7 +355,7 @@ fn under<'a>(alloc: Global, op: UnaryOp, operand: Part<'a, Token, ExprTree>) -> 
 
 /// A leaf, a factor behind a minus sign, or an expression in brackets.
 #[cycle(expr)]
-#[tactic(auto, using(crate::proofs::Factors::factor_leaf, crate::proofs::Factors::factor_deep, crate::proofs::Factors::factor_failed, crate::proofs::Factors::factor_read, crate::proofs::Steps::reads_memory, crate::proofs::Weights::opening_small, crate::proofs::Weights::opening_some, crate::proofs::Weights::opening_none))]
+#[tactic(auto, using(crate::proofs::Factors::factors, crate::proofs::Steps::reads_memory, crate::proofs::Weights::openings))]
 fn factor<'a>(alloc: Global, tokens: &'a [Token], depth: u32) -> Read<'a>
     requires { depth ≤ 64 }
     ensures reads { Reads (factor_rule depth) behind_factor tokens.now (seen result) }
@@ -409,7 +409,7 @@ fn bracketed<'a>(alloc: Global, tokens: &'a [Token], depth: u32) -> Read<'a>
 
 /// The bracket that closes behind a whole, and behind it what `count` brackets more hold.
 #[cycle(expr)]
-#[tactic(auto, using(crate::proofs::Bracketing::closed_refused, crate::proofs::Bracketing::closed_last, crate::proofs::Bracketing::closed_turn, crate::proofs::Bracketing::closed_failed, crate::proofs::Steps::leads_here))]
+#[tactic(auto, using(crate::proofs::Bracketing::bracket_closings, crate::proofs::Steps::leads_here))]
 fn closed<'a>(alloc: Global, count: usize, first: Part<'a, Token, ExprTree>, depth: u32) -> Read<'a>
     requires { depth + height first.value ≤ 64 }
     ensures reads { Reads (closed_rule depth count first.entry.value) behind_factor first.entry.rest.now (seen result) }

@@ -1,30 +1,14 @@
 -- One reading of the parts of tables.
-use Rattle.std.proofs.Common.{◌≡◌, ◌∷◌, ◌++◌, ℕ, Bool, true, List, [], Option, Some, None, refl, ap}
-use Rattle.std.specs.Prelude.{not, is_some}
-use Rattle.pg_grammar.specs.Languages.{gives, one, bind, more}
-use Rattle.pg_grammar.proofs.Agreeing.{Agree, agree_gives, agree_token, agree_one, agree_less}
-use Rattle.pg_grammar.proofs.Words.{Starts, starts_one, starts_bind}
+use Rattle.std.proofs.Common.{◌≡◌, ◌∷◌, ◌++◌, ℕ, Bool, true, List, [], Option, Some, None, refl, ap, not, is_some}
+use Rattle.pg_parse_stmt.proofs.Common.{gives, one, bind, more, Agree, agree_gives, agree_token, agree_one, agree_less, Starts, starts_one, starts_bind, Token, spelling, may_be_name, has, expr, name_of, value_of, any, is_word, behind_constraint_name, behind_part, word, sign, optional, list_of, in_brackets, name, names, default, column_constraint_behind, column_constraint_named, column_rule_behind, next_rule, column_part, table_constraint_behind, constraint_part, part, kind_of, negative_of, constraint_of, rule_of, ColumnRule, ConstraintWord, RuleWord, rank, behind}
 use Rattle.pg_lexer.specs.declared.keyword.Keyword.TheVariants as k
 use Rattle.pg_lexer.specs.declared.sign.Sign.TheVariants as s
-use Rattle.pg_lexer.specs.declared.token.Token.{Token}
 use Rattle.pg_lexer.specs.declared.token.Token.TheVariants as t
-use Rattle.pg_lexer.specs.Keywords.{spelling, may_be_name}
-use Rattle.pg_parse_expr.specs.Behind.{has}
-use Rattle.pg_parse_expr.specs.Grammar.{expr}
-use Rattle.pg_parse_expr.specs.Operators.{name_of, value_of}
-use Rattle.pg_parse_stmt.specs.Behind.{any, is_word, behind_constraint_name, behind_part}
-use Rattle.pg_parse_stmt.specs.Forms.{word, sign, optional, list_of, in_brackets}
-use Rattle.pg_parse_stmt.specs.Grammar.{name, names, default, column_constraint_behind, column_constraint_named, column_rule_behind, next_rule, column_part, table_constraint_behind, constraint_part, part}
-use Rattle.pg_parse_stmt.specs.Words.{kind_of, negative_of, constraint_of, rule_of}
-use Rattle.pg_parse_stmt.specs.declared.tree.ColumnRule.{ColumnRule}
 use Rattle.pg_parse_stmt.specs.declared.tree.ColumnRule.TheVariants as column_rule
-use Rattle.pg_parse_stmt.specs.declared.word.ConstraintWord.{ConstraintWord}
 use Rattle.pg_parse_stmt.specs.declared.word.ConstraintWord.TheVariants as constraint_word
-use Rattle.pg_parse_stmt.specs.declared.word.RuleWord.{RuleWord}
 use Rattle.pg_parse_stmt.specs.declared.word.RuleWord.TheVariants as rule_word
 use Rattle.pg_parse_stmt.proofs.AgreeParts.{agree_name, agree_name_list, agree_bracket, starts_name}
 use Rattle.pg_parse_stmt.proofs.Agreements.{outside, between, starts_first, starts_has, Single, single, single_list, apart_flip, apart_token, apart_outside, agree_then, agree_free, agree_made, agree_choice, agree_optional_word, agree_brackets, agree_rest}
-use Rattle.pg_parse_stmt.specs.Ranks.{rank, behind}
 use Rattle.pg_parse_stmt.proofs.Steps.{starts_optional}
 
 -- columns

@@ -1,37 +1,14 @@
 -- One reading of the parts of statements: names, conditions, items, rows, and the sources behind FROM.
-use Rattle.std.proofs.Common.{◌≡◌, ◌∷◌, ◌++◌, ◌+◌, ℕ, suc, Bool, true, false, List, [], Option, Some, None, refl, sym, ◌∙◌, subst, inl, inr}
-use Rattle.std.specs.Prelude.{◌⊎◌}
-use Rattle.std.proofs.Math.Dec.{leb}
-use Rattle.std.proofs.lemmas.Bool.{and_from}
-use Rattle.pg_grammar.specs.Answers.{next, Reads, IsRead, read}
-use Rattle.pg_grammar.specs.Languages.{Lang, token, one, bind}
-use Rattle.pg_grammar.specs.Limits.{Limit, sources}
-use Rattle.pg_grammar.proofs.Agreeing.{Agree, agree_less, agree_token, agree_one, agree_reaches}
-use Rattle.pg_grammar.proofs.Combining.{reads_one}
-use Rattle.pg_grammar.proofs.Words.{Starts, starts_token, starts_one, starts_either}
+use Rattle.std.proofs.Common.{◌≡◌, ◌∷◌, ◌++◌, ◌+◌, ℕ, suc, Bool, true, false, List, [], Option, Some, None, refl, sym, ◌∙◌, subst, inl, inr, ◌⊎◌, leb}
+use Rattle.pg_parse_stmt.proofs.Common.{and_from, next, Reads, IsRead, read, Lang, token, one, bind, Limit, sources, Agree, agree_less, agree_token, agree_one, agree_reaches, reads_one, Starts, starts_token, starts_one, starts_either, Token, spelling, has, behind_factor, behind_product, behind_sum, behind_concatenation, behind_comparison, behind_predicate, behind_conjunction, behind_expr, expr, name_of, or_op, and_op, compare_op, concat_op, sum_op, product_op, Tree, any, is_word, is_open, behind_as, behind_columns, behind_item, BeginsAllOf, word, or_else, optional, list_of, in_brackets, name, names, alias, table_named, table_ref, condition, as_name, named_expr, all_of, item, items, returning, tuple, tuples, assignment, sets, element, elements, columns, joined, alone, linked, SourceRule, sources_in, next_source, from_of, table_source, one_source, subselect, values_source, query_source, bracketed, source, sources_of, from, bare_name_of, link_of, Item, Joined, Link, rank, behind}
 use Rattle.pg_lexer.specs.declared.keyword.Keyword.TheVariants as k
 use Rattle.pg_lexer.specs.declared.sign.Sign.TheVariants as s
-use Rattle.pg_lexer.specs.declared.token.Token.{Token}
 use Rattle.pg_lexer.specs.declared.token.Token.TheVariants as t
-use Rattle.pg_lexer.specs.Keywords.{spelling}
-use Rattle.pg_parse_expr.specs.Behind.{has, behind_factor, behind_product, behind_sum, behind_concatenation, behind_comparison, behind_predicate, behind_conjunction, behind_expr}
-use Rattle.pg_parse_expr.specs.Grammar.{expr}
-use Rattle.pg_parse_expr.specs.Operators.{name_of, or_op, and_op, compare_op, concat_op, sum_op, product_op}
-use Rattle.pg_parse_expr.specs.Tree.{Tree}
-use Rattle.pg_parse_stmt.specs.Behind.{any, is_word, is_open, behind_as, behind_columns, behind_item}
-use Rattle.pg_parse_stmt.specs.Expected.{BeginsAllOf}
-use Rattle.pg_parse_stmt.specs.Forms.{word, or_else, optional, list_of, in_brackets}
-use Rattle.pg_parse_stmt.specs.Grammar.{name, names, alias, table_named, table_ref, condition, as_name, named_expr, all_of, item, items, returning, tuple, tuples, assignment, sets, element, elements, columns, joined, alone, linked, SourceRule, sources_in, next_source, from_of, table_source, one_source, subselect, values_source, query_source, bracketed, source, sources_of, from}
-use Rattle.pg_parse_stmt.specs.Words.{bare_name_of, link_of}
-use Rattle.pg_parse_stmt.specs.declared.tree.Item.{Item}
 use Rattle.pg_parse_stmt.specs.declared.tree.Item.TheVariants as item_of
-use Rattle.pg_parse_stmt.specs.declared.tree.Joined.{Joined}
-use Rattle.pg_parse_stmt.specs.declared.word.Link.{Link}
 use Rattle.pg_parse_stmt.specs.declared.word.Link.TheVariants as link
 use Rattle.pg_parse_expr.proofs.Unambiguous.{expr_agrees}
 use Rattle.pg_parse_stmt.proofs.Agreements.{outside, between, starts_first, starts_has, deeper, Single, single, loosened, single_list, Tail, tail_gives, tail_token, tail_optional, agree_rule, apart_flip, apart_token, apart_outside, agree_free, agree_made, agree_choice, agree_words, agree_or, agree_or_word, agree_optional, agree_optional_word, agree_brackets, agree_repeat}
-use Rattle.pg_parse_stmt.specs.Ranks.{rank, behind}
-use Rattle.pg_parse_stmt.proofs.Items.{item_all, item_all_of}
+use Rattle.pg_parse_stmt.proofs.Stars.{item_all, item_all_of}
 
 -- names
 pub agree_name : Agree name name any

@@ -1,23 +1,12 @@
 -- One reading of statements: a list of tokens is at most one.
 use Rattle.std.proofs.Common.{◌≡◌, ℕ, true, List, [], Option, Some, None, refl}
-use Rattle.pg_grammar.specs.Answers.{ends}
-use Rattle.pg_grammar.specs.Languages.{Lang, gives, one}
-use Rattle.pg_grammar.specs.Limits.{Limit}
-use Rattle.pg_grammar.proofs.Agreeing.{Agree, agree_gives, agree_token, agree_one, agree_less}
-use Rattle.pg_grammar.proofs.Words.{Starts, starts_gives, starts_token, starts_either}
+use Rattle.pg_parse_stmt.proofs.Common.{ends, Lang, gives, one, Limit, Agree, agree_gives, agree_token, agree_one, agree_less, Starts, starts_gives, starts_token, starts_either, Token, any, behind_statement, select, insert, update, delete, merge, create_table, create_index, transaction, committed, isolation, begin, statement_behind, statement, sentence, lead_of, StmtTree, Lead, rank, behind}
 use Rattle.pg_lexer.specs.declared.keyword.Keyword.TheVariants as k
 use Rattle.pg_lexer.specs.declared.sign.Sign.TheVariants as s
-use Rattle.pg_lexer.specs.declared.token.Token.{Token}
 use Rattle.pg_lexer.specs.declared.token.Token.TheVariants as t
-use Rattle.pg_parse_stmt.specs.Behind.{any, behind_statement}
-use Rattle.pg_parse_stmt.specs.Grammar.{select, insert, update, delete, merge, create_table, create_index, transaction, committed, isolation, begin, statement_behind, statement, sentence}
-use Rattle.pg_parse_stmt.specs.Words.{lead_of}
-use Rattle.pg_parse_stmt.specs.declared.tree.StmtTree.{StmtTree}
 use Rattle.pg_parse_stmt.specs.declared.tree.StmtTree.TheVariants as stmt
-use Rattle.pg_parse_stmt.specs.declared.word.Lead.{Lead}
 use Rattle.pg_parse_stmt.specs.declared.word.Lead.TheVariants as lead
 use Rattle.pg_parse_stmt.proofs.Agreements.{outside, Single, loosened, starts_or_at, apart_words, agree_then, agree_free, agree_made, agree_choice, agree_words, agree_or, agree_or_word}
-use Rattle.pg_parse_stmt.specs.Ranks.{rank, behind}
 use Rattle.pg_parse_stmt.proofs.Follows.{statement_behind as behind_level}
 use Rattle.pg_parse_stmt.proofs.StatementRules.{agree_select, agree_update, agree_delete, agree_merge, agree_create_table, agree_create_index}
 use Rattle.pg_parse_stmt.proofs.InsertRules.{agree_insert}

@@ -1,33 +1,16 @@
 -- One reading of the statements that read and write rows.
 use Rattle.std.proofs.Common.{◌≡◌, ◌∷◌, ◌++◌, Bool, true, false, List, [], Option, Some, None, refl}
-use Rattle.pg_grammar.specs.Languages.{Lang, gives, one, either}
-use Rattle.pg_grammar.proofs.Agreeing.{Agree, agree_gives, agree_token, agree_one, agree_less}
-use Rattle.pg_grammar.proofs.Words.{Starts, starts_gives, starts_token, starts_one, starts_bind, starts_either}
+use Rattle.pg_parse_stmt.proofs.Common.{Lang, gives, one, either, Agree, agree_gives, agree_token, agree_one, agree_less, Starts, starts_gives, starts_token, starts_one, starts_bind, starts_either, Token, spelling, expr, Tree, any, is_word, is_open, behind_as, behind_columns, word, optional, list_of, in_brackets, name, as_name, condition, tuple, tuples, sets, element, elements, columns, subselect, direction, nulls_by, nulls, order_key, order, limit, strength_behind, strength, lock_wait, of_table, locked, locking, rows, target_elements, target_constraint, conflict_target, upsert, conflict_act, conflict, change_behind, change, addition_insert, addition_nothing, addition, then, by_whom, not_matched, when_behind, when, next_when, whens, integer_of, direction_of, nulls_of, strength_of, change_of, ConflictTarget, Direction, Ascending, LockStrength, When, ChangeWord, rank, behind}
 use Rattle.pg_lexer.specs.declared.keyword.Keyword.TheVariants as k
 use Rattle.pg_lexer.specs.declared.sign.Sign.TheVariants as s
-use Rattle.pg_lexer.specs.declared.token.Token.{Token}
 use Rattle.pg_lexer.specs.declared.token.Token.TheVariants as t
-use Rattle.pg_lexer.specs.Keywords.{spelling}
-use Rattle.pg_parse_expr.specs.Grammar.{expr}
-use Rattle.pg_parse_expr.specs.Tree.{Tree}
-use Rattle.pg_parse_stmt.specs.Behind.{any, is_word, is_open, behind_as, behind_columns}
-use Rattle.pg_parse_stmt.specs.Forms.{word, optional, list_of, in_brackets}
-use Rattle.pg_parse_stmt.specs.Grammar.{name, as_name, condition, tuple, tuples, sets, element, elements, columns, subselect, direction, nulls_by, nulls, order_key, order, limit, strength_behind, strength, lock_wait, of_table, locked, locking, rows, target_elements, target_constraint, conflict_target, upsert, conflict_act, conflict, change_behind, change, addition_insert, addition_nothing, addition, then, by_whom, not_matched, when_behind, when, next_when, whens}
-use Rattle.pg_parse_stmt.specs.Words.{integer_of, direction_of, nulls_of, strength_of, change_of}
 use Rattle.pg_parse_stmt.specs.declared.tree.Addition.TheVariants as addition_of
-use Rattle.pg_parse_stmt.specs.declared.tree.ConflictTarget.{ConflictTarget}
-use Rattle.pg_parse_stmt.specs.declared.tree.Direction.{Direction}
-use Rattle.pg_parse_stmt.specs.declared.tree.Direction.TheVariants.{Ascending}
-use Rattle.pg_parse_stmt.specs.declared.tree.LockStrength.{LockStrength}
 use Rattle.pg_parse_stmt.specs.declared.tree.LockStrength.TheVariants as lock
 use Rattle.pg_parse_stmt.specs.declared.tree.LockWait.TheVariants as wait_of
-use Rattle.pg_parse_stmt.specs.declared.tree.When.{When}
 use Rattle.pg_parse_stmt.specs.declared.tree.When.TheVariants as when_of
-use Rattle.pg_parse_stmt.specs.declared.word.ChangeWord.{ChangeWord}
 use Rattle.pg_parse_stmt.specs.declared.word.ChangeWord.TheVariants as change_word
 use Rattle.pg_parse_stmt.proofs.AgreeParts.{agree_name, single_expr, agree_condition, tail_condition, agree_tuple, agree_tuples, agree_sets, agree_elements, agree_columns, agree_subselect}
-use Rattle.pg_parse_stmt.proofs.Agreements.{outside, between, starts_first, deeper, Single, single, loosened, single_list, tail_gives, tail_token, tail_bind, tail_or, agree_rule, apart_flip, apart_words, apart_token, agree_then, agree_free, agree_made, agree_choice, agree_words, agree_or, agree_or_word, agree_optional, agree_optional_word, agree_repeat, starts_repeat}
-use Rattle.pg_parse_stmt.specs.Ranks.{rank, behind}
+use Rattle.pg_parse_stmt.proofs.Agreements.{outside, between, starts_first, deeper, Single, single, loosened, single_list, tail_gives, tail_token, tail_bind, tail_or, agree_rule, apart_flip, apart_words, apart_token, agree_then, agree_free, agree_made, agree_choice, agree_words, agree_or, agree_or_word, agree_optional, agree_optional_word, agree_repeat}
 use Rattle.pg_parse_stmt.proofs.Steps.{starts_or, starts_optional}
 
 -- the order of rows
@@ -285,9 +268,3 @@ unfolding whens next_when
 agree_whens =
     agree_repeat (behind 11) (behind 14) when next_when (λ w. w ∷ []) (deeper 11 14 refl) begins_when
     (λ list. agree_made (behind 11) when (λ w. list ++ w ∷ []) agree_when) agree_when
-
-starts_whens : Starts (behind 8) whens (behind 14)
-unfolding whens when rank
-starts_whens =
-    starts_repeat (behind 11) (behind 14) when next_when (λ w. w ∷ []) (deeper 11 14 refl) begins_when (behind 8)
-    (starts_token (behind 8) (behind 11) (t.Keyword k.When) _ refl)

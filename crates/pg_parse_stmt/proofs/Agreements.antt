@@ -1,19 +1,8 @@
 -- One reading of the forms that many rules have.
-use Rattle.std.proofs.Common.{◌≡◌, ◌∷◌, ◌++◌, ℕ, suc, Bool, true, false, [], Option, Some, None, refl, ap, ◌∙◌, arith}
-use Rattle.std.specs.Prelude.{not, ◌&&◌, is_some}
-use Rattle.std.proofs.Math.Dec.{leb}
-use Rattle.std.proofs.lemmas.Bool.{le-leb, leb-true, both_ways, not_from_true, and_right}
-use Rattle.pg_grammar.specs.Answers.{next}
-use Rattle.pg_grammar.specs.Languages.{Lang, gives, token, one, bind, either, more}
-use Rattle.pg_grammar.proofs.Agreeing.{Agree, Apart, apart_starts, agree_less, agree_gives, agree_token, agree_bind, agree_either, agree_more}
-use Rattle.pg_grammar.proofs.Words.{Starts, starts_gives, starts_token, starts_one, starts_bind, starts_either, starts_more}
+use Rattle.std.proofs.Common.{◌≡◌, ◌∷◌, ◌++◌, ℕ, suc, Bool, true, false, [], Option, Some, None, refl, ap, ◌∙◌, arith, not, ◌&&◌, is_some, leb, le-leb, leb-true}
+use Rattle.pg_parse_stmt.proofs.Common.{both_ways, not_from_true, and_right, next, Lang, gives, token, one, bind, either, more, Agree, Apart, apart_starts, agree_less, agree_gives, agree_token, agree_bind, agree_either, agree_more, Starts, starts_gives, starts_token, starts_one, starts_bind, starts_either, starts_more, Token, has, any, rank, behind, sign, or_else, optional, next_of, list_of, in_brackets}
 use Rattle.pg_lexer.specs.declared.sign.Sign.TheVariants as s
-use Rattle.pg_lexer.specs.declared.token.Token.{Token}
 use Rattle.pg_lexer.specs.declared.token.Token.TheVariants as t
-use Rattle.pg_parse_expr.specs.Behind.{has}
-use Rattle.pg_parse_stmt.specs.Behind.{any}
-use Rattle.pg_parse_stmt.specs.Ranks.{rank, behind}
-use Rattle.pg_parse_stmt.specs.Forms.{sign, or_else, optional, next_of, list_of, in_brackets}
 use Rattle.pg_parse_stmt.proofs.Lists.{starts_any, and_left}
 
 -- what f does not let stand behind
@@ -137,10 +126,6 @@ module _ {X V : Type 0} (before behind : Option Token → Bool) (L : Lang Token 
       starts_more before behind step a
       (λ v. starts_as (between before behind) before before (λ o e. and_left (before o) (not (behind o)) e)
       (begun v)) below
-
-  pub starts_repeat : (p : Option Token → Bool) → Starts p L before →
-      Starts p (bind L (λ x. more step (first x))) behind
-  starts_repeat p a = starts_bind p before behind L (λ x. more step (first x)) a (λ x. starts_rest (first x))
 
   pub agree_rest : ((a : V) → Agree (step a) (step a) before) → (a : V) → Agree (more step a) (more step a) behind
   agree_rest each a =

@@ -1,10 +1,6 @@
 -- [WHERE expr]
+use Rattle.pg_parse_stmt.proofs.Common.{expr, condition, Spelled, word, spelled_optional}
 use Rattle.pg_lexer.specs.declared.keyword.Keyword.TheVariants as k
-use Rattle.pg_parse_expr.specs.Grammar.{expr}
-use Rattle.pg_parse_stmt.specs.Grammar.{condition}
-use Rattle.pg_grammar.proofs.Words.{Spelled}
-use Rattle.pg_parse_stmt.specs.Forms.{word}
-use Rattle.pg_parse_stmt.specs.Spellings.{spelled_optional}
 
 pub spelled_where : Spelled condition
 unfolding condition

@@ -1,27 +1,16 @@
 -- The rows of an INSERT and its ON CONFLICT as rules.
-use Rattle.std.proofs.Common.{◌≡◌, ◌∷◌, List, Option, Some, None}
-use Rattle.std.specs.Prelude.{not}
-use Rattle.pg_grammar.specs.Answers.{Misses, Seen, read, Reads}
-use Rattle.pg_grammar.proofs.Words.{Spelled}
+use Rattle.std.proofs.Common.{◌≡◌, ◌∷◌, List, Option, Some, None, not}
+use Rattle.pg_parse_stmt.proofs.Common.{Misses, Seen, read, Reads, Spelled, Token, is_word, behind_tuples, behind_subselect, behind_rows, behind_target, behind_conflict, behind_on_conflict, optional, tuples, subselect, rows, conflict_target, conflict_act, conflict, spelled_tuples, Rows, Conflict, Rule, maybe, made, last, Fits, spelled, own, Comes, comes_some, comes_none}
 use Rattle.pg_lexer.specs.declared.keyword.Keyword.TheVariants as k
-use Rattle.pg_lexer.specs.declared.token.Token.{Token}
 use Rattle.pg_lexer.specs.declared.token.Token.TheVariants as t
-use Rattle.pg_parse_stmt.specs.Behind.{is_word, behind_tuples, behind_subselect, behind_rows, behind_target, behind_conflict, behind_on_conflict}
-use Rattle.pg_parse_stmt.specs.Forms.{optional}
-use Rattle.pg_parse_stmt.specs.Grammar.{tuples, subselect, rows, conflict_target, conflict_act, conflict}
-use Rattle.pg_parse_stmt.specs.Spellings.{spelled_tuples}
-use Rattle.pg_parse_stmt.specs.declared.tree.Rows.{Rows}
 use Rattle.pg_parse_stmt.specs.declared.tree.Rows.TheVariants as rows_of
-use Rattle.pg_parse_stmt.specs.declared.tree.Conflict.{Conflict}
+use Rattle.pg_grammar.proofs.Rules as rule
 use Rattle.pg_parse_stmt.proofs.Lists.{and_left}
 use Rattle.pg_parse_stmt.proofs.Steps.{and_right}
 use Rattle.pg_parse_stmt.proofs.Following.{do_behind_target, on_goes_on_on_conflict}
 use Rattle.pg_parse_stmt.proofs.Inserts.{spelled_target, spelled_act}
 use Rattle.pg_parse_stmt.proofs.SourceRules.{spelled_subselect}
-use Rattle.pg_grammar.proofs.Rules.{Rule, token, maybe, made, either, last, gives, Fits}
-use Rattle.pg_grammar.proofs.Rules as rule
-use Rattle.pg_grammar.proofs.Fitting.{spelled, own}
-use Rattle.pg_grammar.proofs.Reading.{Comes, comes_some, comes_none}
+use Rattle.pg_grammar.proofs.Rules.{token, either, gives}
 
 -- VALUES tuples | SELECT subselect
 abbrev pub rows_rule : Rule Token Rows

@@ -1,16 +1,7 @@
 -- Where a function that reads one token leaves.
 use Rattle.std.proofs.Common.{◌≡◌, ◌∷◌, ℕ, Bool, List, [], length, Option, Some, None, refl, sym, ap, ◌∙◌, arith}
-use Rattle.pg_grammar.specs.declared.fault.Fault.TheVariants.{Syntax}
-use Rattle.pg_grammar.specs.Languages.{one, Took}
-use Rattle.pg_grammar.specs.Answers.{next, Lacks, read, failed, Reads}
-use Rattle.pg_grammar.proofs.Words.{bars_one, spelled_one, Spelled}
-use Rattle.pg_grammar.proofs.Combining.{reads_one, reads_refused}
-use Rattle.pg_lexer.specs.declared.token.Token.{Token}
+use Rattle.pg_parse_stmt.proofs.Common.{Syntax, one, Took, next, Lacks, read, failed, Reads, bars_one, spelled_one, Spelled, reads_one, reads_refused, Token, name_of, name, bare_name_of, integer_of, any}
 use Rattle.pg_lexer.specs.declared.token.Token.TheVariants as token
-use Rattle.pg_parse_expr.specs.Operators.{name_of}
-use Rattle.pg_parse_stmt.specs.Grammar.{name}
-use Rattle.pg_parse_stmt.specs.Words.{bare_name_of, integer_of}
-use Rattle.pg_parse_stmt.specs.Behind.{any}
 
 pub reads_took : {V : Type 0} (f : Token → Option V) (follows : Option Token → Bool) (xs ys : List Token) (x : V) →
     Took f xs x ys → Reads (one f) follows xs (read x ys)

@@ -1,17 +1,9 @@
 -- Which words and signs stand behind which parts, and which go on with them.
 use Rattle.std.proofs.Common.{◌≡◌, true, false, Option, Some, None, refl}
-use Rattle.std.proofs.lemmas.Bool.{false≢true}
+use Rattle.pg_parse_stmt.proofs.Common.{false≢true, Token, Link, Direction, spelling, behind_comparison, behind_concatenation, behind_conjunction, behind_expr, behind_factor, behind_predicate, behind_product, behind_sum, has, and_op, compare_op, concat_op, or_op, product_op, sum_op, behind_as, behind_columns, behind_condition, behind_conflict, behind_direction, behind_from, behind_guard, behind_item, behind_items, behind_joined, behind_list, behind_nulls, behind_of, behind_on_conflict, behind_sets, behind_statement, behind_subselect, behind_table, behind_target, behind_tuples, behind_wait, begins_alias, is_comma, is_open, is_word, direction_of, link_of}
 use Rattle.pg_lexer.specs.declared.keyword.Keyword.TheVariants as k
 use Rattle.pg_lexer.specs.declared.sign.Sign.TheVariants as s
-use Rattle.pg_lexer.specs.declared.token.Token.{Token}
 use Rattle.pg_lexer.specs.declared.token.Token.TheVariants as t
-use Rattle.pg_parse_stmt.specs.declared.word.Link.{Link}
-use Rattle.pg_parse_stmt.specs.declared.tree.Direction.{Direction}
-use Rattle.pg_lexer.specs.Keywords.{spelling}
-use Rattle.pg_parse_expr.specs.Behind.{behind_comparison, behind_concatenation, behind_conjunction, behind_expr, behind_factor, behind_predicate, behind_product, behind_sum, has}
-use Rattle.pg_parse_expr.specs.Operators.{and_op, compare_op, concat_op, or_op, product_op, sum_op}
-use Rattle.pg_parse_stmt.specs.Behind.{behind_as, behind_columns, behind_condition, behind_conflict, behind_direction, behind_from, behind_guard, behind_item, behind_items, behind_joined, behind_list, behind_nulls, behind_of, behind_on_conflict, behind_sets, behind_statement, behind_subselect, behind_table, behind_target, behind_tuples, behind_wait, begins_alias, is_comma, is_open, is_word}
-use Rattle.pg_parse_stmt.specs.Words.{direction_of, link_of}
 
 -- behind_expr
 pub as_behind_expr : behind_expr (Some (t.Keyword k.As)) ≡ true

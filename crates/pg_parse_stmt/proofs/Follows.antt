@@ -1,19 +1,11 @@
 -- What stands behind a level of a statement may stand behind the parts of that level.
-use Rattle.std.proofs.Common.{◌≡◌, ℕ, true, Option, Some, None, refl}
-use Rattle.std.specs.Prelude.{not, ◌&&◌}
-use Rattle.std.proofs.Math.Dec.{leb}
-use Rattle.std.proofs.lemmas.Bool.{and_from}
+use Rattle.std.proofs.Common.{◌≡◌, ℕ, true, Option, Some, None, refl, not, ◌&&◌, leb}
+use Rattle.pg_parse_stmt.proofs.Common.{and_from, Token, spelling, has, behind_expr, is_word, is_comma, behind_limit, behind_direction, behind_nulls, behind_locked, behind_locking, behind_of, behind_wait, behind_order_key, begins_alias, behind_list, behind_table, behind_condition, behind_item, behind_items, behind_sets, behind_joined, behind_from, behind_statement, link_of, direction_of, rank, behind}
 use Rattle.pg_lexer.specs.declared.keyword.Keyword.TheVariants as k
 use Rattle.pg_lexer.specs.declared.sign.Sign.TheVariants as s
-use Rattle.pg_lexer.specs.declared.token.Token.{Token}
 use Rattle.pg_lexer.specs.declared.token.Token.TheVariants as t
-use Rattle.pg_lexer.specs.Keywords.{spelling}
-use Rattle.pg_parse_expr.specs.Behind.{has, behind_expr}
-use Rattle.pg_parse_stmt.specs.Behind.{is_word, is_comma, behind_limit, behind_direction, behind_nulls, behind_locked, behind_locking, behind_of, behind_wait, behind_order_key, begins_alias, behind_list, behind_table, behind_condition, behind_item, behind_items, behind_sets, behind_joined, behind_from, behind_statement}
-use Rattle.pg_parse_stmt.specs.Words.{link_of, direction_of}
 use Rattle.pg_parse_stmt.proofs.AgreeParts.{expr_follows, item_follows}
 use Rattle.pg_parse_stmt.proofs.Agreements.{deeper}
-use Rattle.pg_parse_stmt.specs.Ranks.{rank, behind}
 
 -- what stands behind a level is no word of a lower rank
 pub table_follows : (o : Option Token) → behind 10 o ≡ true → behind_table o ≡ true

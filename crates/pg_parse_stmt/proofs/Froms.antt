@@ -1,32 +1,13 @@
 -- FROM and USING lists.
-use Rattle.std.proofs.Common.{◌≡◌, ◌≤◌, ◌∷◌, ◌++◌, ◌+◌, ℕ, Bool, true, false, List, [], length, Option, Some, None, refl, sym, ap, ◌∙◌, subst, arith}
-use Rattle.std.specs.Prelude.{not, ◌&&◌, is_some}
-use Rattle.pg_grammar.specs.declared.fault.Fault.{Fault}
-use Rattle.pg_grammar.specs.declared.fault.Fault.TheVariants.{Syntax}
-use Rattle.pg_grammar.specs.Languages.{Lang, Took, gives, one, bind, more}
-use Rattle.pg_grammar.specs.Answers.{next, Misses, Lacks, Seen, read, failed, Reads}
-use Rattle.pg_grammar.proofs.Rules.{Rule, Fits}
+use Rattle.std.proofs.Common.{◌≡◌, ◌≤◌, ◌∷◌, ◌++◌, ◌+◌, ℕ, Bool, true, false, List, [], length, Option, Some, None, refl, sym, ap, ◌∙◌, subst, arith, not, ◌&&◌, is_some}
+use Rattle.pg_parse_stmt.proofs.Common.{Fault, Syntax, Lang, Took, gives, one, bind, more, next, Misses, Lacks, Seen, read, failed, Reads, Rule, Fits, spelled, own, Comes, Leads, leads_on, Starts, Bars, Spelled, starts_gives, starts_one, starts_bind, starts_more, spelled_gives, spelled_bind, spelled_more, bars_one, bars_bind, reads_gives, reads_bind_failed, leads_one, leads_bind, leads_more, leads_no_more, leads_assoc, leads_gives, Token, has, behind_expr, expr, any, behind_table, behind_joined, behind_from, one_source, SourceRule, sources_in, joined, alone, linked, next_source, from_of, spelled_expr, link_of, Joined, TableRef, Link}
+use Rattle.pg_parse_stmt.proofs.Forms.{word_then, no_word, made_read, made_failed, spelled_made, before}
 use Rattle.pg_grammar.proofs.Rules as rule
-use Rattle.pg_grammar.proofs.Fitting.{spelled, own}
-use Rattle.pg_grammar.proofs.Reading.{Comes}
-use Rattle.pg_grammar.proofs.Leading.{Leads, leads_on, reads_narrow}
-use Rattle.pg_grammar.proofs.Words.{Starts, Bars, Spelled, starts_gives, starts_one, starts_bind, starts_more, spelled_gives, spelled_bind, spelled_more, bars_one, bars_bind}
-use Rattle.pg_grammar.proofs.Combining.{reads_gives, reads_bind_failed, leads_one, leads_bind, leads_more, leads_no_more, leads_assoc, leads_gives}
 use Rattle.pg_lexer.specs.declared.keyword.Keyword.TheVariants as k
-use Rattle.pg_lexer.specs.declared.token.Token.{Token}
 use Rattle.pg_lexer.specs.declared.token.Token.TheVariants as t
-use Rattle.pg_parse_expr.specs.Behind.{has, behind_expr}
-use Rattle.pg_parse_expr.specs.Grammar.{expr}
-use Rattle.pg_parse_stmt.specs.Behind.{any, behind_table, behind_joined, behind_from}
-use Rattle.pg_parse_stmt.specs.Grammar.{one_source, SourceRule, sources_in, joined, alone, linked, next_source, from_of}
-use Rattle.pg_parse_stmt.specs.Spellings.{spelled_expr}
-use Rattle.pg_parse_stmt.specs.Words.{link_of}
-use Rattle.pg_parse_stmt.specs.declared.tree.Joined.{Joined}
-use Rattle.pg_parse_stmt.specs.declared.tree.TableRef.{TableRef}
-use Rattle.pg_parse_stmt.specs.declared.word.Link.{Link}
 use Rattle.pg_parse_stmt.specs.declared.word.Link.TheVariants as link
 use Rattle.pg_parse_stmt.proofs.Lists.{starts_any, and_left}
-use Rattle.pg_parse_stmt.proofs.Steps.{word_read, word_missed, part_read, and_right}
+use Rattle.pg_parse_stmt.proofs.Steps.{and_right}
 use Rattle.pg_parse_stmt.proofs.Following.{link_behind, on_behind_table}
 
 joined_expr : (o : Option Token) → behind_joined o ≡ true → behind_expr o ≡ true
@@ -80,58 +61,39 @@ unfolding joined
 spelled_joined source h = spelled (joined_rule source) behind_expr (joined_fits source h)
 
 module _ {S : Type 0} (source : Lang Token S) (spelled_source : Spelled source) where
-  alone_tree : S → Joined S
-  alone_tree x = record { source = x; on = None }
-
-  alone_made : S → Lang Token (Joined S)
-  alone_made x = gives (alone_tree x)
-
-  spelled_made : (x : S) → Spelled (alone_made x)
-  unfolding alone_made
-  spelled_made x = spelled_gives (alone_tree x)
-
-  starts_made : (x : S) → Starts behind_table (alone_made x) behind_table
-  unfolding alone_made
-  starts_made x = starts_gives behind_table behind_table (alone_tree x) (λ o e. e)
-
   pub spelled_alone : Spelled (alone source)
-  unfolding alone alone_made alone_tree
-  spelled_alone = spelled_bind source alone_made spelled_source spelled_made
+  unfolding alone
+  spelled_alone = spelled_made spelled_source
 
   pub alone_read : (xs ys : List Token) (x : S) → Reads source behind_table xs (read x ys) →
       Reads (alone source) behind_table xs (read (record { source = x; on = None }) ys)
-  unfolding alone alone_made alone_tree
-  alone_read xs ys x r =
-      part_read source alone_made behind_table behind_table xs ys x (read (alone_tree x) ys) r starts_made
-      (reads_gives (alone_tree x) (alone_tree x) behind_table ys refl)
+  unfolding alone
+  alone_read xs ys x r = made_read r
 
   pub alone_failed : (xs : List Token) (f : Fault) → Reads source behind_table xs (failed f) →
       Reads (alone source) behind_table xs (failed f)
-  unfolding alone alone_made alone_tree
-  alone_failed xs f r = reads_bind_failed source alone_made behind_table behind_table xs f r starts_made spelled_made
+  unfolding alone
+  alone_failed xs f r = made_failed r
 
   pub comma_is : (xs : List Token) (o : Seen Token (Joined S)) → Reads (alone source) behind_table xs o →
       Reads (linked source link.Comma) behind_joined xs o
   unfolding linked
-  comma_is xs o r = reads_narrow (alone source) behind_table behind_joined xs o joined_table r
+  comma_is xs o r = before joined_table r
 
   pub join_is : (xs : List Token) (o : Seen Token (Joined S)) → Reads (joined source) behind_expr xs o →
       Reads (linked source link.Join) behind_joined xs o
   unfolding linked
-  join_is xs o r = reads_narrow (joined source) behind_expr behind_joined xs o joined_expr r
+  join_is xs o r = before joined_expr r
 
   pub inner_is : (xs ys : List Token) (o : Seen Token (Joined S)) → xs ≡ t.Keyword k.Join ∷ ys →
       Reads (joined source) behind_expr ys o → Reads (linked source link.Inner) behind_joined xs o
   unfolding linked
-  inner_is xs ys o e r =
-      word_read (t.Keyword k.Join) (joined source) behind_joined xs ys o e
-      (reads_narrow (joined source) behind_expr behind_joined ys o joined_expr r)
+  inner_is xs ys o e r = word_then e (before joined_expr r)
 
   pub inner_no_join : (xs : List Token) (l : ℕ) → Misses (t.Keyword k.Join) xs → l ≡ length xs →
       Reads (linked source link.Inner) behind_joined xs (failed (Syntax l))
   unfolding linked
-  inner_no_join xs l miss q = word_missed (t.Keyword k.Join) (joined source) behind_joined xs l miss q
-      (spelled_joined source spelled_source)
+  inner_no_join xs l miss q = no_word (spelled_joined source spelled_source) miss q
 
 module _ {S : Type 0} (source : SourceRule S) (count : S → ℕ) (spelled_source : (n : ℕ) → Spelled (source n))
     (n : ℕ) where
@@ -276,3 +238,6 @@ module _ {S : Type 0} (count : S → ℕ) where
 
 pub counted_limit : (b k m : ℕ) → k ≡ m → b + m ≤ 8 → b + k ≤ 8
 counted_limit b k m e h = omega (arith, e, h)
+
+-- what sources answer: their start, one more, and their end
+pub ruleset froms = (from_begun, from_not_begun, from_goes_on, from_breaks_off, from_ends, sources_more)

@@ -1,31 +1,18 @@
 -- INSERT as a rule.
-use Rattle.std.proofs.Common.{◌≡◌, Bool, true, false, List, [], Option, Some, None, refl}
-use Rattle.std.specs.Prelude.{◌&&◌}
-use Rattle.pg_parse_stmt.proofs.Steps.{and_right}
-use Rattle.pg_grammar.specs.Answers.{Seen, Reads}
-use Rattle.pg_grammar.proofs.Words.{Starts, Spelled}
-use Rattle.pg_grammar.proofs.Agreeing.{Agree, agree_less}
+use Rattle.std.proofs.Common.{◌≡◌, Bool, true, false, List, [], Option, Some, None, refl, ◌&&◌}
+use Rattle.pg_parse_stmt.proofs.Common.{Seen, Reads, Starts, Spelled, Agree, agree_less, Token, spelling, any, is_word, is_open, behind_as, behind_columns, behind_rows, behind_on_conflict, behind_tuples, behind_list, is_comma, behind_subselect, behind_statement, optional, name, as_name, columns, rows, conflict, returning, insert, spelled_optional, Insert, rank, behind, Rule, maybe, Known, Fits, Ones, and_left, starts_before, spelled, agrees, less, Comes}
 use Rattle.pg_lexer.specs.declared.keyword.Keyword.TheVariants as k
 use Rattle.pg_lexer.specs.declared.sign.Sign.TheVariants as s
-use Rattle.pg_lexer.specs.declared.token.Token.{Token}
 use Rattle.pg_lexer.specs.declared.token.Token.TheVariants as t
-use Rattle.pg_lexer.specs.Keywords.{spelling}
-use Rattle.pg_parse_stmt.specs.Behind.{any, is_word, is_open, behind_as, behind_columns, behind_rows, behind_on_conflict, behind_tuples, behind_list, is_comma, behind_subselect, behind_statement}
-use Rattle.pg_parse_stmt.specs.Forms.{optional}
-use Rattle.pg_parse_stmt.specs.Grammar.{name, as_name, columns, rows, conflict, returning, insert}
-use Rattle.pg_parse_stmt.specs.Spellings.{spelled_optional}
-use Rattle.pg_parse_stmt.specs.declared.tree.Insert.{Insert}
-use Rattle.pg_parse_stmt.specs.Ranks.{rank, behind}
+use Rattle.pg_grammar.proofs.Rules as rule
+use Rattle.pg_parse_stmt.proofs.Steps.{and_right}
 use Rattle.pg_parse_stmt.proofs.AgreeParts.{agree_name, agree_columns, agree_returning}
 use Rattle.pg_parse_stmt.proofs.AgreeStatements.{agree_as, agree_rows, starts_columns, starts_rows, agree_optional_conflict}
 use Rattle.pg_parse_stmt.proofs.ConflictRules.{spelled_rows}
 use Rattle.pg_parse_stmt.proofs.Elements.{spelled_columns}
 use Rattle.pg_parse_stmt.proofs.Naming.{spelled_as_name}
 use Rattle.pg_parse_stmt.proofs.Starting.{or_starts, optional_starts}
-use Rattle.pg_grammar.proofs.Rules.{Rule, token, maybe, gives, Known, Fits, Ones}
-use Rattle.pg_grammar.proofs.Rules as rule
-use Rattle.pg_grammar.proofs.Fitting.{and_left, starts_before, spelled, agrees, less}
-use Rattle.pg_grammar.proofs.Reading.{Comes}
+use Rattle.pg_grammar.proofs.Rules.{token, gives}
 use Rattle.pg_parse_stmt.proofs.Follows.{statement_behind}
 use Rattle.pg_parse_stmt.proofs.Named.{parts, known_returning}
 use Rattle.pg_parse_stmt.proofs.Following.{end_behind_on_conflict, returning_behind_on_conflict}

@@ -1,17 +1,10 @@
 -- What is read passes the tests of the laws: one lemma a form.
 use Rattle.std.proofs.Common.{◌≡◌, Bool, true, ◌&&◌, List, [], ◌∷◌, ◌++◌, Option, refl, ◌∙◌}
-use Rattle.std.specs.List.{list_all}
-use Rattle.std.proofs.lemmas.Bool.{and_from}
+use Rattle.pg_parse_stmt.proofs.Common.{list_all, and_from, Lang, gives, one, bind, either, Keeps, keeps_gives, keeps_token, keeps_one, keeps_bind, keeps_either, keeps_more, Token, is_token, word, sign, or_else, optional, next_of, list_of, in_brackets, none_or, some_and_all}
 use Rattle.std.proofs.lemmas.List.Folds.{list_all-append}
-use Rattle.pg_grammar.specs.Languages.{Lang, gives, one, bind, either}
-use Rattle.pg_grammar.proofs.Keeping.{Keeps, keeps_gives, keeps_token, keeps_one, keeps_bind, keeps_either, keeps_more}
 use Rattle.pg_lexer.specs.declared.keyword.Keyword.{Keyword as Reserved}
 use Rattle.pg_lexer.specs.declared.sign.Sign.{Sign as Mark}
-use Rattle.pg_lexer.specs.declared.token.Token.{Token}
 use Rattle.pg_lexer.specs.declared.token.Token.TheVariants.{Keyword, Sign}
-use Rattle.pg_parse_expr.specs.Laws.{is_token}
-use Rattle.pg_parse_stmt.specs.Forms.{word, sign, or_else, optional, next_of, list_of, in_brackets}
-use Rattle.pg_parse_stmt.specs.Laws.{none_or, some_and_all}
 
 -- what L reads of tokens that a line may have passes a test
 abbrev pub Reading : {V : Type 0} → Lang Token V → (V → Bool) → Type 0

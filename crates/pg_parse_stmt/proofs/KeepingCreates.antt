@@ -1,18 +1,9 @@
 -- CREATE TABLE and CREATE UNIQUE INDEX pass their tests where they are read.
 use Rattle.std.proofs.Common.{◌≡◌, ℕ, true, List, [], Option, Some, None, refl}
-use Rattle.std.specs.List.{list_all}
-use Rattle.pg_grammar.proofs.Keeping.{keeps_more}
-use Rattle.pg_parse_expr.specs.Laws.{is_free_name, is_token}
-use Rattle.pg_parse_stmt.specs.Laws.{none_or, is_column_constraint, is_column_rule, is_table_constraint, is_part, is_statement}
-use Rattle.pg_parse_stmt.specs.Grammar.{default, column_constraint_behind, column_constraint_named, column_rule_behind, next_rule}
-use Rattle.pg_parse_stmt.specs.Grammar.{column_part, table_constraint_behind, constraint_part, part, create_table, create_index}
-use Rattle.pg_parse_stmt.specs.declared.tree.ColumnRule.{ColumnRule}
-use Rattle.pg_parse_stmt.specs.declared.word.ConstraintWord.{ConstraintWord}
+use Rattle.pg_parse_stmt.proofs.Common.{list_all, keeps_more, is_free_name, is_token, none_or, is_column_constraint, is_column_rule, is_table_constraint, is_part, is_statement, default, column_constraint_behind, column_constraint_named, column_rule_behind, next_rule, column_part, table_constraint_behind, constraint_part, part, create_table, create_index, ColumnRule, ConstraintWord, RuleWord}
 use Rattle.pg_parse_stmt.specs.declared.word.ConstraintWord.TheVariants as constraint_word
-use Rattle.pg_parse_stmt.specs.declared.word.RuleWord.{RuleWord}
 use Rattle.pg_parse_stmt.specs.declared.word.RuleWord.TheVariants as rule_word
-use Rattle.pg_parse_stmt.proofs.Keeping.{free_one, Reading, both, all_and_one, reading_gives, reading_word, reading_sign, reading_bind}
-use Rattle.pg_parse_stmt.proofs.Keeping.{reading_either, reading_optional, reading_in_brackets, reading_list}
+use Rattle.pg_parse_stmt.proofs.Keeping.{free_one, Reading, both, all_and_one, reading_gives, reading_word, reading_sign, reading_bind, reading_either, reading_optional, reading_in_brackets, reading_list}
 use Rattle.pg_parse_stmt.proofs.KeepingTokens.{is_default, reading_value_of, reading_negative_of}
 use Rattle.pg_parse_stmt.proofs.KeepingParts.{reading_name, reading_names, reading_expr, reading_condition, reading_elements}
 

@@ -1,34 +1,14 @@
 -- FROM and USING lists: what is read is within the limit.
-use Rattle.std.proofs.Common.{◌≡◌, ◌≤◌, ◌+◌, ℕ, suc, Bool, true, ◌&&◌, List, [], ◌∷◌, ◌++◌, length, refl, arith}
-use Rattle.std.specs.Prelude.{nat_le, is_none}
-use Rattle.std.specs.List.{list_all}
-use Rattle.std.proofs.lemmas.Bool.{le-leb}
-use Rattle.pg_grammar.specs.Limits.{sources}
-use Rattle.pg_grammar.specs.Languages.{Lang, bind}
-use Rattle.pg_grammar.proofs.Keeping.{Keeps, keeps_gives, keeps_more, keeps_reaches, Takes, takes_token, takes_one, takes_either}
+use Rattle.std.proofs.Common.{◌≡◌, ◌≤◌, ◌+◌, ℕ, suc, Bool, true, ◌&&◌, List, [], ◌∷◌, ◌++◌, length, refl, arith, nat_le, is_none, le-leb}
+use Rattle.pg_parse_stmt.proofs.Common.{list_all, sources, Lang, bind, Keeps, keeps_gives, keeps_more, keeps_reaches, Takes, takes_token, takes_one, takes_either, Token, is_token, name_of, none_or, is_expr, is_table, are_joined, is_subselect, is_source, are_sources, sources_or_none, or_else, SourceRule, sources_in, joined, alone, linked, next_source, from_of, name, table_named, table_ref, table_source, one_source, subselect, values_source, query_source, bracketed, source, sources_of, from, Source, Joined, Subselect, Link}
 use Rattle.pg_lexer.specs.declared.sign.Sign.TheVariants as s
-use Rattle.pg_lexer.specs.declared.token.Token.{Token}
-use Rattle.pg_lexer.specs.declared.token.Token.TheVariants.{Sign}
-use Rattle.pg_parse_expr.specs.Laws.{is_token}
-use Rattle.pg_parse_expr.specs.Operators.{name_of}
-use Rattle.pg_parse_stmt.specs.Laws.{none_or, is_expr, is_table, are_joined, is_subselect}
-use Rattle.pg_parse_stmt.specs.Laws.{is_source, are_sources, sources_or_none}
-use Rattle.pg_parse_stmt.specs.Forms.{or_else}
-use Rattle.pg_parse_stmt.specs.Grammar.{SourceRule, sources_in, joined, alone, linked, next_source, from_of, name, table_named, table_ref}
-use Rattle.pg_parse_stmt.specs.Grammar.{table_source, one_source, subselect, values_source, query_source, bracketed, source}
-use Rattle.pg_parse_stmt.specs.Grammar.{sources_of, from}
-use Rattle.pg_parse_stmt.specs.declared.tree.Source.{Source}
 use Rattle.pg_parse_stmt.specs.declared.tree.Source.TheVariants as source_of
-use Rattle.pg_parse_stmt.specs.declared.tree.Joined.{Joined}
-use Rattle.pg_parse_stmt.specs.declared.tree.Subselect.{Subselect}
-use Rattle.pg_parse_stmt.specs.declared.word.Link.{Link}
 use Rattle.pg_parse_stmt.specs.declared.word.Link.TheVariants as link
+use Rattle.pg_lexer.specs.declared.token.Token.TheVariants.{Sign}
 use Rattle.pg_parse_stmt.proofs.Froms.{sources_more, tables_counted}
 use Rattle.pg_parse_stmt.proofs.WritingFroms.{three_parts}
-use Rattle.pg_parse_stmt.proofs.Keeping.{free_one, Reading, both, all_and_one, reading_gives, reading_word, reading_sign}
-use Rattle.pg_parse_stmt.proofs.Keeping.{reading_bind, reading_either, reading_less, reading_in_brackets}
-use Rattle.pg_parse_stmt.proofs.KeepingParts.{reading_names, reading_alias, reading_table_ref, reading_expr, reading_condition}
-use Rattle.pg_parse_stmt.proofs.KeepingParts.{reading_items, reading_tuples}
+use Rattle.pg_parse_stmt.proofs.Keeping.{free_one, Reading, both, all_and_one, reading_gives, reading_word, reading_sign, reading_bind, reading_either, reading_less, reading_in_brackets}
+use Rattle.pg_parse_stmt.proofs.KeepingParts.{reading_names, reading_alias, reading_table_ref, reading_expr, reading_condition, reading_items, reading_tuples}
 
 -- a list of sources, by a rule whose sources pass a test and are at most 8 with those before and inside them
 module _ {S : Type 0} (is_one : S → Bool) (count : S → ℕ) (rule : SourceRule S)

@@ -1,18 +1,7 @@
 -- What stands in many statements passes its test where it is read: names, expressions, items, rows.
-use Rattle.std.proofs.Common.{refl}
-use Rattle.std.specs.List.{list_all}
-use Rattle.std.proofs.lemmas.Bool.{le-leb}
-use Rattle.pg_parse_expr.specs.Grammar.{expr}
-use Rattle.pg_parse_expr.specs.Laws.{is_free_name}
-use Rattle.pg_parse_expr.specs.Tree.{height}
-use Rattle.pg_parse_expr.proofs.Within.{expr_keeps}
-use Rattle.pg_parse_stmt.specs.Laws.{none_or, some_and_all, is_expr, are_names, is_item, is_table, are_rows, is_element}
-use Rattle.pg_parse_stmt.specs.Laws.{is_assignment, are_sets}
-use Rattle.pg_parse_stmt.specs.Grammar.{name, names, alias, table_named, table_ref, condition, as_name, named_expr, all_of}
-use Rattle.pg_parse_stmt.specs.Grammar.{item, items, returning}
-use Rattle.pg_parse_stmt.specs.Grammar.{tuple, tuples, assignment, sets, element, elements, columns}
-use Rattle.pg_parse_stmt.proofs.Keeping.{Reading, both, reading_gives, reading_word, reading_sign, reading_bind, reading_either}
-use Rattle.pg_parse_stmt.proofs.Keeping.{reading_less, reading_optional, reading_in_brackets, reading_list, reading_list_or_none}
+use Rattle.std.proofs.Common.{refl, le-leb}
+use Rattle.pg_parse_stmt.proofs.Common.{list_all, expr, is_free_name, height, expr_keeps, none_or, some_and_all, is_expr, are_names, is_item, is_table, are_rows, is_element, is_assignment, are_sets, name, names, alias, table_named, table_ref, condition, as_name, named_expr, all_of, item, items, returning, tuple, tuples, assignment, sets, element, elements, columns}
+use Rattle.pg_parse_stmt.proofs.Keeping.{Reading, both, reading_gives, reading_word, reading_sign, reading_bind, reading_either, reading_less, reading_optional, reading_in_brackets, reading_list, reading_list_or_none}
 use Rattle.pg_parse_stmt.proofs.KeepingTokens.{reading_name_of, reading_bare_name_of}
 
 -- names

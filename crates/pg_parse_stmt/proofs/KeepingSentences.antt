@@ -1,13 +1,7 @@
 -- Each statement that is read is within the limits.
 use Rattle.std.proofs.Common.{◌≡◌, ℕ, true, List, [], refl}
-use Rattle.std.specs.List.{list_all}
-use Rattle.pg_lexer.specs.declared.token.Token.{Token}
-use Rattle.pg_parse_expr.specs.Laws.{is_token}
-use Rattle.pg_parse_stmt.specs.Laws.{is_statement}
-use Rattle.pg_parse_stmt.specs.Grammar.{transaction, committed, isolation, begin, statement_behind, statement, sentence}
-use Rattle.pg_parse_stmt.specs.declared.tree.StmtTree.{StmtTree}
+use Rattle.pg_parse_stmt.proofs.Common.{list_all, Token, is_token, is_statement, transaction, committed, isolation, begin, statement_behind, statement, sentence, StmtTree, Lead}
 use Rattle.pg_parse_stmt.specs.declared.tree.StmtTree.TheVariants as stmt
-use Rattle.pg_parse_stmt.specs.declared.word.Lead.{Lead}
 use Rattle.pg_parse_stmt.specs.declared.word.Lead.TheVariants as lead
 use Rattle.pg_parse_stmt.proofs.Keeping.{free_one, Reading, reading_gives, reading_word, reading_sign, reading_bind, reading_either}
 use Rattle.pg_parse_stmt.proofs.KeepingStatements.{reading_select, reading_insert, reading_update, reading_delete, reading_merge}

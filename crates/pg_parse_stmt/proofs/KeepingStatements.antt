@@ -1,33 +1,11 @@
 -- SELECT, INSERT, UPDATE, DELETE and MERGE pass their tests where they are read.
-use Rattle.std.proofs.Common.{◌≡◌, Bool, true, [], ◌∷◌, Option, Some, None, refl, arith}
-use Rattle.std.specs.List.{list_all}
-use Rattle.std.proofs.lemmas.Bool.{le-leb}
-use Rattle.pg_grammar.specs.Languages.{Lang}
-use Rattle.pg_grammar.proofs.Keeping.{keeps_more}
-use Rattle.pg_lexer.specs.declared.token.Token.{Token}
-use Rattle.pg_parse_expr.specs.Laws.{is_token}
-use Rattle.pg_parse_expr.specs.Tree.{Tree}
-use Rattle.pg_parse_stmt.specs.Laws.{none_or, some_and_all, is_expr, is_order_key, is_limit, is_locking, is_select, are_proposed_rows}
-use Rattle.pg_parse_stmt.specs.Laws.{is_target, is_conflict, is_insert, is_update, is_delete, is_change, is_addition, is_when}
-use Rattle.pg_parse_stmt.specs.Laws.{is_merge}
-use Rattle.pg_parse_stmt.specs.Grammar.{direction, nulls, order_key, order, limit, strength_behind, strength, lock_wait, of_table}
-use Rattle.pg_parse_stmt.specs.Grammar.{locked, locking, select, rows, target_elements, target_constraint, conflict_target}
-use Rattle.pg_parse_stmt.specs.Grammar.{upsert, conflict_act, conflict, insert, update, delete, change_behind, change}
-use Rattle.pg_parse_stmt.specs.Grammar.{addition_insert, addition_nothing, addition, then, by_whom, not_matched, when_behind, when}
-use Rattle.pg_parse_stmt.specs.Grammar.{next_when, whens, merge, sources_of}
-use Rattle.pg_parse_stmt.specs.declared.tree.ConflictTarget.{ConflictTarget}
-use Rattle.pg_parse_stmt.specs.declared.tree.When.{When}
-use Rattle.pg_parse_stmt.specs.declared.tree.Direction.{Direction}
-use Rattle.pg_parse_stmt.specs.declared.tree.LockStrength.{LockStrength}
+use Rattle.std.proofs.Common.{◌≡◌, Bool, true, [], ◌∷◌, Option, Some, None, refl, arith, le-leb}
+use Rattle.pg_parse_stmt.proofs.Common.{list_all, Lang, keeps_more, Token, is_token, Tree, none_or, some_and_all, is_expr, is_order_key, is_limit, is_locking, is_select, are_proposed_rows, is_target, is_conflict, is_insert, is_update, is_delete, is_change, is_addition, is_when, is_merge, direction, nulls, order_key, order, limit, strength_behind, strength, lock_wait, of_table, locked, locking, select, rows, target_elements, target_constraint, conflict_target, upsert, conflict_act, conflict, insert, update, delete, change_behind, change, addition_insert, addition_nothing, addition, then, by_whom, not_matched, when_behind, when, next_when, whens, merge, sources_of, ConflictTarget, When, Direction, LockStrength, ChangeWord}
 use Rattle.pg_parse_stmt.specs.declared.tree.LockStrength.TheVariants as lock
-use Rattle.pg_parse_stmt.specs.declared.word.ChangeWord.{ChangeWord}
 use Rattle.pg_parse_stmt.specs.declared.word.ChangeWord.TheVariants as change_word
-use Rattle.pg_parse_stmt.proofs.Keeping.{Free, free_gives, free_one, Reading, both, some_and_one, reading_gives, reading_word, reading_bind}
-use Rattle.pg_parse_stmt.proofs.Keeping.{reading_either, reading_optional, reading_list, reading_list_or_none}
+use Rattle.pg_parse_stmt.proofs.Keeping.{Free, free_gives, free_one, Reading, both, some_and_one, reading_gives, reading_word, reading_bind, reading_either, reading_optional, reading_list, reading_list_or_none}
 use Rattle.pg_parse_stmt.proofs.KeepingTokens.{reading_integer_of}
-use Rattle.pg_parse_stmt.proofs.KeepingParts.{reading_name, reading_columns, reading_as_name, reading_table_ref, reading_expr}
-use Rattle.pg_parse_stmt.proofs.KeepingParts.{reading_condition, reading_items, reading_returning, reading_tuple, reading_tuples}
-use Rattle.pg_parse_stmt.proofs.KeepingParts.{reading_sets, reading_elements}
+use Rattle.pg_parse_stmt.proofs.KeepingParts.{reading_name, reading_columns, reading_as_name, reading_table_ref, reading_expr, reading_condition, reading_items, reading_returning, reading_tuple, reading_tuples, reading_sets, reading_elements}
 use Rattle.pg_parse_stmt.proofs.KeepingFroms.{reading_subselect, reading_source, reading_from, reading_no_or_sources}
 
 -- ORDER BY, LIMIT and FOR

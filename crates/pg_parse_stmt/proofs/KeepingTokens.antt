@@ -1,22 +1,11 @@
 -- What one token stands for passes the tests of the laws.
-use Rattle.std.proofs.Common.{◌≡◌, ℕ, zero, suc, pos, negsuc, Bool, true, false, ◌||◌, List, Some, None}
-use Rattle.std.proofs.Common.{refl, subst, arith}
-use Rattle.std.specs.Prelude.{nat_le, if◌then◌else◌, neg_ℤ}
-use Rattle.std.proofs.lemmas.Bool.{leb-false, le-leb}
-use Rattle.std.proofs.Math.Bool.{true-or}
-use Rattle.std.proofs.Math.Dec.{leb-zero}
-use Rattle.pg_grammar.specs.Languages.{one}
-use Rattle.pg_grammar.proofs.Keeping.{keeps_one}
-use Rattle.pg_values.specs.declared.value.Value.{Value}
+use Rattle.std.proofs.Common.{if◌then◌else◌, ◌≡◌, ℕ, zero, suc, pos, negsuc, Bool, true, false, ◌||◌, List, Some, None, refl, subst, arith, nat_le, neg_ℤ, leb-false, le-leb}
+use Rattle.pg_parse_stmt.proofs.Common.{one, keeps_one, Value, Token, is_free_name, is_literal, is_token, name_of, value_of, name_free, bare_name_of, integer_of, negative_of, is_limit, is_negative}
 use Rattle.pg_values.specs.declared.value.Value.TheVariants as value
 use Rattle.pg_lexer.specs.declared.keyword.Keyword.TheVariants as word
-use Rattle.pg_lexer.specs.declared.token.Token.{Token}
+use Rattle.std.proofs.Math.Bool.{true-or}
+use Rattle.std.proofs.Math.Dec.{leb-zero}
 use Rattle.pg_lexer.specs.declared.token.Token.TheVariants.{Keyword, Sign, Name, Integer, Quoted}
-use Rattle.pg_parse_expr.specs.Laws.{is_free_name, is_literal, is_token}
-use Rattle.pg_parse_expr.specs.Operators.{name_of, value_of}
-use Rattle.pg_parse_expr.proofs.Within.{name_free}
-use Rattle.pg_parse_stmt.specs.Words.{bare_name_of, integer_of, negative_of}
-use Rattle.pg_parse_stmt.specs.Laws.{is_limit, is_negative}
 use Rattle.pg_parse_stmt.proofs.Keeping.{Reading, both}
 
 -- names

@@ -2,9 +2,11 @@
 -- A rule of several parts in a row is data: RULE_rule, with RULE_fits, which says that it fits, and RULE_read, by which
 -- each exit of its function goes. Of a choice, RULE_no_WORD and RULE_PART_failed say what it answers where that word or
 -- part is not read.
+pub mod Common
 pub mod Exits
 pub mod Lists
 pub mod Steps
+pub mod Forms
 pub mod Following
 pub mod Tables
 pub mod Conditions
@@ -16,6 +18,8 @@ pub mod Sources
 pub mod SourceRules
 pub mod Elements
 pub mod Bracketed
+pub mod Barring
+pub mod Stars
 pub mod Items
 pub mod Starting
 pub mod PartRules
@@ -23,6 +27,7 @@ pub mod Inserts
 pub mod ConflictRules
 pub mod Constraints
 pub mod Parts
+pub mod Changes
 pub mod Merges
 pub mod Statements
 pub mod Wholes

@@ -1,18 +1,8 @@
 -- Lists with commas, and what stands in brackets.
-use Rattle.std.proofs.Common.{◌≡◌, ◌≤◌, ◌∷◌, ◌++◌, ℕ, Bool, true, false, List, [], length, Option, Some, refl, sym, ap, ◌∙◌, subst, arith, length-append}
-use Rattle.std.specs.Prelude.{not, ◌&&◌}
-use Rattle.pg_grammar.specs.declared.fault.Fault.{Fault}
-use Rattle.pg_grammar.specs.declared.fault.Fault.TheVariants.{Syntax}
-use Rattle.pg_grammar.specs.Languages.{Lang, gives, bind, more}
-use Rattle.pg_grammar.specs.Answers.{next, Misses, read, failed, IsRead, Reads}
-use Rattle.pg_grammar.proofs.Leading.{Leads, leads_on}
-use Rattle.pg_grammar.proofs.Words.{Starts, Bars, Spelled, starts_gives, starts_token, starts_bind, starts_more, spelled_gives, spelled_token, spelled_bind, spelled_more, bars_token}
-use Rattle.pg_grammar.proofs.Combining.{reads_gives, reads_refused, leads_token, leads_bind, reads_bind_failed, leads_more, leads_no_more, leads_assoc, leads_token_bind, leads_gives}
+use Rattle.std.proofs.Common.{◌≡◌, ◌≤◌, ◌∷◌, ◌++◌, ℕ, Bool, true, false, List, [], length, Option, Some, refl, sym, ap, ◌∙◌, subst, arith, length-append, not, ◌&&◌}
+use Rattle.pg_parse_stmt.proofs.Common.{Fault, Syntax, Lang, gives, bind, more, next, Misses, read, failed, IsRead, Reads, Leads, leads_on, Starts, Bars, Spelled, starts_gives, starts_token, starts_bind, starts_more, spelled_gives, spelled_token, spelled_bind, spelled_more, bars_token, reads_gives, reads_refused, leads_token, leads_bind, reads_bind_failed, leads_more, leads_no_more, leads_assoc, leads_token_bind, leads_gives, Token, any, behind_list, is_comma, sign, next_of, list_of, in_brackets}
 use Rattle.pg_lexer.specs.declared.sign.Sign.TheVariants as s
-use Rattle.pg_lexer.specs.declared.token.Token.{Token}
 use Rattle.pg_lexer.specs.declared.token.Token.TheVariants.{Sign as sign_token}
-use Rattle.pg_parse_stmt.specs.Behind.{any, behind_list, is_comma}
-use Rattle.pg_parse_stmt.specs.Forms.{sign, next_of, list_of, in_brackets}
 
 pub starts_any : {V : Type 0} (L : Lang Token V) (g : Option Token → Bool) → Starts any L g
 starts_any L g = record { starts = λ m s v z l b. refl }
@@ -189,3 +179,9 @@ brackets_not_open L xs n a miss h =
     (λ x. miss.misses x))
     (spelled_token (sign_token s.Open) (bind L closing) (spelled_bind L closing a
     (λ v. spelled_token (sign_token s.Close) (gives v) (spelled_gives v)))) h
+
+-- what a list answers: its start, one more, and its end
+pub ruleset lists = (list_begun, list_not_begun, list_goes_on, list_breaks_off, list_ends, reads_no_more)
+
+-- what stands in brackets answers
+pub ruleset brackets = (brackets_read, brackets_not_open, brackets_not_read, brackets_not_closed)

@@ -1,303 +1,86 @@
--- MERGE
-use Rattle.std.proofs.Common.{◌≡◌, ◌∷◌, ◌++◌, ℕ, Bool, true, false, List, [], length, Option, Some, refl, sym, ap, ◌∙◌}
-use Rattle.pg_grammar.specs.declared.fault.Fault.{Fault}
-use Rattle.pg_grammar.specs.declared.fault.Fault.TheVariants.{Syntax}
-use Rattle.pg_grammar.specs.Languages.{Lang, gives, token, one, bind, more}
-use Rattle.pg_grammar.specs.Answers.{next, Misses, Seen, read, failed, Reads}
-use Rattle.pg_grammar.proofs.Words.{Starts, Spelled, starts_gives, starts_token, starts_bind, spelled_gives, spelled_token, spelled_bind, bars_token, bars_bind}
-use Rattle.pg_grammar.proofs.Combining.{reads_gives, reads_refused, reads_bind_failed, leads_left, leads_right}
+-- WHEN clauses, one and several.
+use Rattle.std.proofs.Common.{◌≡◌, ◌∷◌, ◌++◌, ℕ, Bool, true, false, List, [], length, Option, Some, refl, sym, ap, ◌∙◌, subst}
+use Rattle.pg_parse_stmt.proofs.Common.{Fault, Syntax, Lang, gives, bind, more, next, Misses, Seen, read, failed, Reads, Starts, Spelled, starts_gives, starts_token, starts_bind, spelled_gives, spelled_token, spelled_bind, bars_token, bars_bind, reads_gives, reads_refused, reads_bind_failed, Token, any, behind_sets, word, Leads, leads_on, starts_more, spelled_more, spelled_left, leads_token, leads_token_bind, leads_bind, leads_more, leads_no_more, leads_assoc, leads_gives, change, addition, then, by_whom, not_matched, when_behind, when, next_when, whens, When, rank, behind}
 use Rattle.pg_lexer.specs.declared.keyword.Keyword.TheVariants as k
-use Rattle.pg_lexer.specs.declared.token.Token.{Token}
 use Rattle.pg_lexer.specs.declared.token.Token.TheVariants as t
-use Rattle.pg_parse_stmt.specs.Behind.{any, behind_sets}
-use Rattle.pg_parse_stmt.specs.Forms.{word}
-use Rattle.pg_parse_stmt.proofs.Lists.{starts_any}
-use Rattle.pg_parse_stmt.proofs.Steps.{word_read, word_missed, part_read}
-use Rattle.std.proofs.Common.{subst}
-use Rattle.pg_grammar.proofs.Leading.{Leads, leads_on, reads_narrow}
-use Rattle.pg_grammar.proofs.Words.{starts_more, spelled_more, spelled_left, bars_either, bars_from}
-use Rattle.pg_grammar.proofs.Combining.{leads_token, leads_token_bind, leads_bind, leads_more, leads_no_more, leads_assoc, leads_gives}
-use Rattle.pg_parse_stmt.specs.Grammar.{tuple, sets, columns, change_behind, change, addition_insert, addition_nothing, addition, then, by_whom, not_matched, when_behind, when, next_when, whens}
-use Rattle.pg_parse_stmt.specs.Spellings.{spelled_sets, spelled_change}
-use Rattle.pg_parse_stmt.specs.Words.{change_of}
-use Rattle.pg_parse_stmt.specs.declared.word.ChangeWord.{ChangeWord}
-use Rattle.pg_parse_stmt.specs.declared.word.ChangeWord.TheVariants as change_word
-use Rattle.pg_parse_stmt.specs.declared.tree.Assignment.{Assignment}
-use Rattle.pg_parse_stmt.specs.declared.tree.Change.{Change}
-use Rattle.pg_parse_stmt.specs.declared.tree.Change.TheVariants as change_tree
-use Rattle.pg_parse_stmt.specs.declared.tree.Addition.{Addition}
-use Rattle.pg_parse_stmt.specs.declared.tree.Addition.TheVariants as addition_of
-use Rattle.pg_parse_stmt.specs.declared.tree.When.{When}
 use Rattle.pg_parse_stmt.specs.declared.tree.When.TheVariants as when_of
-use Rattle.pg_parse_stmt.proofs.PartRules.{spelled_addition_insert, spelled_then, starts_then}
+use Rattle.pg_parse_stmt.proofs.Lists.{starts_any}
+use Rattle.pg_parse_stmt.proofs.Forms.{word_then, no_word, one_word, neither_word, other, this, before_any}
+use Rattle.pg_parse_stmt.proofs.PartRules.{spelled_then, starts_then}
 use Rattle.pg_parse_stmt.proofs.Following.{when_behind_sets}
-use Rattle.pg_parse_stmt.specs.Ranks.{rank, behind}
 use Rattle.pg_parse_stmt.proofs.Agreements.{deeper}
 use Rattle.pg_parse_stmt.proofs.Follows.{sets_follows}
+use Rattle.pg_parse_stmt.proofs.Changes.{spelled_the_change}
 
--- a change
-update_made : List Assignment → Lang Token Change
-update_made a = gives (change_tree.Update a)
+spelled_by_whom : Spelled by_whom
+unfolding by_whom
+spelled_by_whom =
+    spelled_left _ _ (spelled_token (t.Keyword k.Source) _ (spelled_then change when_of.NotBySource spelled_the_change))
 
-spelled_update_made : (a : List Assignment) → Spelled (update_made a)
-unfolding update_made
-spelled_update_made a = spelled_gives (change_tree.Update a)
+pub by_source : (xs ys : List Token) (o : Seen Token When) → xs ≡ t.Keyword k.Source ∷ ys →
+    Reads (then change when_of.NotBySource) behind_sets ys o → Reads by_whom behind_sets xs o
+unfolding by_whom
+by_source xs ys o e r = one_word (λ h. cc h) e r
 
-starts_update_made : (a : List Assignment) → Starts behind_sets (update_made a) behind_sets
-unfolding update_made
-starts_update_made a = starts_gives behind_sets behind_sets (change_tree.Update a) (λ o e. e)
+pub by_target : (xs ys : List Token) (o : Seen Token When) → Misses (t.Keyword k.Source) xs →
+    xs ≡ t.Keyword k.Target ∷ ys → Reads (then addition when_of.NotByTarget) any ys o → Reads by_whom behind_sets xs o
+unfolding by_whom
+by_target xs ys o miss e r = other miss (word_then e (before_any r))
 
-pub change_no_set : (xs : List Token) (l : ℕ) → Misses (t.Keyword k.Set) xs → l ≡ length xs →
-    Reads (change_behind change_word.Update) behind_sets xs (failed (Syntax l))
-unfolding change_behind update_made
-change_no_set xs l miss q =
-    word_missed (t.Keyword k.Set) (bind sets update_made) behind_sets xs l miss q
-    (spelled_bind sets update_made spelled_sets spelled_update_made)
+pub by_none : (xs : List Token) (l : ℕ) → Misses (t.Keyword k.Source) xs → Misses (t.Keyword k.Target) xs →
+    l ≡ length xs → Reads by_whom behind_sets xs (failed (Syntax l))
+unfolding by_whom
+by_none xs l a b q = neither_word (spelled_then change when_of.NotBySource spelled_the_change) a b q
 
-pub change_no_sets : (xs ys : List Token) (f : Fault) → xs ≡ t.Keyword k.Set ∷ ys →
-    Reads sets behind_sets ys (failed f) → Reads (change_behind change_word.Update) behind_sets xs (failed f)
-unfolding change_behind update_made
-change_no_sets xs ys f e r =
-    word_read (t.Keyword k.Set) (bind sets update_made) behind_sets xs ys (failed f) e
-    (reads_bind_failed sets update_made behind_sets behind_sets ys f r starts_update_made spelled_update_made)
+spelled_not_matched : Spelled not_matched
+unfolding not_matched
+spelled_not_matched = spelled_left _ _ (spelled_token (t.Keyword k.By) by_whom spelled_by_whom)
 
-pub change_sets : (xs ys zs : List Token) (a : List Assignment) → xs ≡ t.Keyword k.Set ∷ ys →
-    Reads sets behind_sets ys (read a zs) →
-    Reads (change_behind change_word.Update) behind_sets xs (read (change_tree.Update a) zs)
-unfolding change_behind update_made
-change_sets xs ys zs a e r =
-    word_read (t.Keyword k.Set) (bind sets update_made) behind_sets xs ys (read (change_tree.Update a) zs) e
-    (part_read sets update_made behind_sets behind_sets ys zs a (read (change_tree.Update a) zs) r starts_update_made
-    (reads_gives (change_tree.Update a) (change_tree.Update a) behind_sets zs refl))
-
-pub change_delete : (xs : List Token) → Reads (change_behind change_word.Delete) behind_sets xs
-    (read change_tree.Delete xs)
-unfolding change_behind
-change_delete xs = reads_gives change_tree.Delete change_tree.Delete behind_sets xs refl
-
-pub change_nothing : (xs ys : List Token) → xs ≡ t.Keyword k.Nothing ∷ ys →
-    Reads (change_behind change_word.Do) behind_sets xs (read change_tree.Nothing ys)
-unfolding change_behind
-change_nothing xs ys e =
-    word_read (t.Keyword k.Nothing) (gives change_tree.Nothing) behind_sets xs ys (read change_tree.Nothing ys) e
-    (reads_gives change_tree.Nothing change_tree.Nothing behind_sets ys refl)
-
-pub change_no_nothing : (xs : List Token) (l : ℕ) → Misses (t.Keyword k.Nothing) xs → l ≡ length xs →
-    Reads (change_behind change_word.Do) behind_sets xs (failed (Syntax l))
-unfolding change_behind
-change_no_nothing xs l miss q =
-    word_missed (t.Keyword k.Nothing) (gives change_tree.Nothing) behind_sets xs l miss q
-    (spelled_gives change_tree.Nothing)
-
-spelled_change_behind : (w : ChangeWord) → Spelled (change_behind w)
-unfolding change_behind update_made
-spelled_change_behind change_word.Update =
-    spelled_token (t.Keyword k.Set) (bind sets update_made)
-    (spelled_bind sets update_made spelled_sets spelled_update_made)
-spelled_change_behind change_word.Delete = spelled_gives change_tree.Delete
-spelled_change_behind change_word.Do =
-    spelled_token (t.Keyword k.Nothing) (gives change_tree.Nothing) (spelled_gives change_tree.Nothing)
-
-pub change_read : (xs ys : List Token) (w : ChangeWord) (o : Seen Token Change) → Reads (one change_of) any xs (read w ys) →
-    Reads (change_behind w) behind_sets ys o → Reads change behind_sets xs o
-unfolding change
-change_read xs ys w o r q =
-    part_read (one change_of) change_behind any behind_sets xs ys w o r
-    (λ u. starts_any (change_behind u) behind_sets) q
-
-pub change_failed : (xs : List Token) (f : Fault) → Reads (one change_of) any xs (failed f) →
-    Reads change behind_sets xs (failed f)
-unfolding change
-change_failed xs f r =
-    reads_bind_failed (one change_of) change_behind any behind_sets xs f r
-    (λ u. starts_any (change_behind u) behind_sets) spelled_change_behind
-
-pub spelled_the_change : Spelled change
-unfolding change
-spelled_the_change = spelled_bind (one change_of) change_behind spelled_change spelled_change_behind
-
--- INSERT ["(" names ")"] VALUES tuple
-addition_after_insert : Lang Token Addition
-addition_after_insert = bind columns (λ c. word k.Values (bind tuple (λ v. gives (addition_of.Insert c v))))
-
--- DO NOTHING
-addition_nothing_made : Addition
-addition_nothing_made = addition_of.Nothing
-
-addition_after_nothing : Lang Token Addition
-addition_after_nothing = gives addition_nothing_made
-
-spelled_addition_after_nothing : Spelled addition_after_nothing
-unfolding addition_after_nothing
-spelled_addition_after_nothing = spelled_gives addition_nothing_made
-
-addition_after_do : Lang Token Addition
-addition_after_do = token (t.Keyword k.Nothing) addition_after_nothing
-
-spelled_addition_after_do : Spelled addition_after_do
-unfolding addition_after_do
-spelled_addition_after_do = spelled_token (t.Keyword k.Nothing) addition_after_nothing spelled_addition_after_nothing
-
-pub addition_nothing_no_do : (xs : List Token) (l : ℕ) → Misses (t.Keyword k.Do) xs →
-    l ≡ length xs →
-    Reads addition_nothing any xs (failed (Syntax l))
-unfolding addition_nothing addition_after_do addition_after_nothing addition_nothing_made
-addition_nothing_no_do xs l miss q =
-    word_missed (t.Keyword k.Do) addition_after_do any xs l miss q spelled_addition_after_do
-
-pub addition_nothing_no_word : (xs after_do : List Token) (l : ℕ) → xs ≡ (t.Keyword k.Do) ∷ after_do →
-    Misses (t.Keyword k.Nothing) after_do →
-    l ≡ length after_do →
-    Reads addition_nothing any xs (failed (Syntax l))
-unfolding addition_nothing addition_after_do addition_after_nothing addition_nothing_made
-addition_nothing_no_word xs after_do l at_do miss q =
-    word_read (t.Keyword k.Do) addition_after_do any xs after_do (failed (Syntax l)) at_do
-    (word_missed (t.Keyword k.Nothing) addition_after_nothing any after_do l miss q spelled_addition_after_nothing)
-
-pub addition_nothing_whole : (xs after_do rest : List Token) → xs ≡ (t.Keyword k.Do) ∷ after_do →
-    after_do ≡ (t.Keyword k.Nothing) ∷ rest →
-    Reads addition_nothing any xs (read addition_of.Nothing rest)
-unfolding addition_nothing addition_after_do addition_after_nothing addition_nothing_made
-addition_nothing_whole xs after_do rest at_do at_nothing =
-    word_read (t.Keyword k.Do) addition_after_do any xs after_do (read addition_of.Nothing rest) at_do
-    (word_read (t.Keyword k.Nothing) addition_after_nothing any after_do rest (read addition_of.Nothing rest) at_nothing
-    (reads_gives addition_nothing_made addition_nothing_made any rest refl))
-
-pub spelled_addition : Spelled addition
-unfolding addition
-spelled_addition = spelled_left addition_insert addition_nothing spelled_addition_insert
-
-pub addition_left : (xs ys : List Token) (o : Seen Token Addition) → xs ≡ t.Keyword k.Insert ∷ ys →
-    Reads addition_insert any xs o → Reads addition any xs o
-unfolding addition addition_nothing
-addition_left xs ys o e r =
-    (leads_left addition_insert (word k.Do (word k.Nothing (gives addition_of.Nothing))) any xs
-    (bars_token any (t.Keyword k.Do) (word k.Nothing (gives addition_of.Nothing)) 0 xs (λ n. cc (e, n)))).to o r
-
-pub addition_right : (xs : List Token) (o : Seen Token Addition) → Misses (t.Keyword k.Insert) xs →
-    Reads addition_nothing any xs o → Reads addition any xs o
-unfolding addition addition_insert addition_after_insert
-addition_right xs o miss r =
-    (leads_right (word k.Insert addition_after_insert) addition_nothing any xs
-    (bars_token any (t.Keyword k.Insert) addition_after_insert 0 xs (λ n. miss.misses n))).to o r
-
+-- the words that begin a THEN, and what may stand before it
 opens_then : Option Token → Bool
 opens_then (Some (t.Keyword k.And)) = true
 opens_then (Some (t.Keyword k.Then)) = true
 opens_then _ = false
 
-spelled_by_whom : Spelled by_whom
-unfolding by_whom
-spelled_by_whom =
-    spelled_left (word k.Source (then change when_of.NotBySource)) (word k.Target (then addition when_of.NotByTarget))
-    (spelled_token (t.Keyword k.Source) (then change when_of.NotBySource)
-    (spelled_then change when_of.NotBySource spelled_the_change))
-
-pub by_source : (xs ys : List Token) (o : Seen Token When) → xs ≡ t.Keyword k.Source ∷ ys →
-    Reads (then change when_of.NotBySource) behind_sets ys o → Reads by_whom behind_sets xs o
-unfolding by_whom
-by_source xs ys o e r =
-    (leads_left (word k.Source (then change when_of.NotBySource))
-    (word k.Target (then addition when_of.NotByTarget)) behind_sets xs
-    (bars_token behind_sets (t.Keyword k.Target) (then addition when_of.NotByTarget) 0 xs (λ n. cc (e, n)))).to o
-    (word_read (t.Keyword k.Source) (then change when_of.NotBySource) behind_sets xs ys o e r)
-
-pub by_target : (xs ys : List Token) (o : Seen Token When) → Misses (t.Keyword k.Source) xs →
-    xs ≡ t.Keyword k.Target ∷ ys → Reads (then addition when_of.NotByTarget) any ys o → Reads by_whom behind_sets xs o
-unfolding by_whom
-by_target xs ys o miss e r =
-    (leads_right (word k.Source (then change when_of.NotBySource))
-    (word k.Target (then addition when_of.NotByTarget)) behind_sets xs
-    (bars_token behind_sets (t.Keyword k.Source) (then change when_of.NotBySource) 0 xs (λ n. miss.misses n))).to o
-    (word_read (t.Keyword k.Target) (then addition when_of.NotByTarget) behind_sets xs ys o e
-    (reads_narrow (then addition when_of.NotByTarget) any behind_sets ys o (λ o h. refl) r))
-
-pub by_none : (xs : List Token) (l : ℕ) → Misses (t.Keyword k.Source) xs → Misses (t.Keyword k.Target) xs →
-    l ≡ length xs → Reads by_whom behind_sets xs (failed (Syntax l))
-unfolding by_whom
-by_none xs l a b q =
-    reads_refused by_whom behind_sets xs l
-    (bars_either behind_sets (word k.Source (then change when_of.NotBySource))
-    (word k.Target (then addition when_of.NotByTarget)) 1 xs (bars_token behind_sets (t.Keyword k.Source)
-    (then change when_of.NotBySource) 0 xs (λ n. a.misses n))
-    (bars_token behind_sets (t.Keyword k.Target) (then addition when_of.NotByTarget) 0 xs
-    (λ n. b.misses n))) spelled_by_whom q
-
-spelled_not_matched : Spelled not_matched
-unfolding not_matched
-spelled_not_matched =
-    spelled_left (word k.By by_whom) (then addition when_of.NotByTarget)
-    (spelled_token (t.Keyword k.By) by_whom spelled_by_whom)
-
-by_opens : opens_then (Some (t.Keyword k.By)) ≡ false
-unfolding opens_then
-by_opens = refl
-
 pub not_matched_by : (xs ys : List Token) (o : Seen Token When) → xs ≡ t.Keyword k.By ∷ ys →
     Reads by_whom behind_sets ys o → Reads not_matched behind_sets xs o
 unfolding not_matched opens_then
 not_matched_by xs ys o e r =
-    (leads_left (word k.By by_whom) (then addition when_of.NotByTarget) behind_sets xs
-    (bars_from opens_then behind_sets (then addition when_of.NotByTarget) 0 xs
-    (starts_then opens_then behind_sets addition when_of.NotByTarget refl refl)
-    (ap (λ x. opens_then (next x)) e ∙ by_opens))).to o
-    (word_read (t.Keyword k.By) by_whom behind_sets xs ys o e r)
+    this opens_then refl (starts_then opens_then behind_sets addition when_of.NotByTarget refl refl) e r
 
 pub not_matched_plain : (xs : List Token) (o : Seen Token When) → Misses (t.Keyword k.By) xs →
     Reads (then addition when_of.NotByTarget) any xs o → Reads not_matched behind_sets xs o
 unfolding not_matched
-not_matched_plain xs o miss r =
-    (leads_right (word k.By by_whom) (then addition when_of.NotByTarget) behind_sets xs
-    (bars_token behind_sets (t.Keyword k.By) by_whom 0 xs (λ n. miss.misses n))).to o
-    (reads_narrow (then addition when_of.NotByTarget) any behind_sets xs o (λ o h. refl) r)
-
-not_words : Lang Token When
-not_words = word k.Matched not_matched
+not_matched_plain xs o miss r = other miss (before_any r)
 
 pub spelled_when_behind : Spelled when_behind
-unfolding when_behind not_words
+unfolding when_behind
 spelled_when_behind =
-    spelled_left (word k.Matched (then change when_of.Matched)) (word k.Not not_words)
-    (spelled_token (t.Keyword k.Matched) (then change when_of.Matched)
-    (spelled_then change when_of.Matched spelled_the_change))
+    spelled_left _ _ (spelled_token (t.Keyword k.Matched) _ (spelled_then change when_of.Matched spelled_the_change))
 
 pub when_matched : (xs ys : List Token) (o : Seen Token When) → xs ≡ t.Keyword k.Matched ∷ ys →
     Reads (then change when_of.Matched) behind_sets ys o → Reads when_behind behind_sets xs o
-unfolding when_behind not_words
-when_matched xs ys o e r =
-    (leads_left (word k.Matched (then change when_of.Matched)) (word k.Not not_words) behind_sets xs
-    (bars_token behind_sets (t.Keyword k.Not) not_words 0 xs (λ n. cc (e, n)))).to o
-    (word_read (t.Keyword k.Matched) (then change when_of.Matched) behind_sets xs ys o e r)
+unfolding when_behind
+when_matched xs ys o e r = one_word (λ h. cc h) e r
 
-when_not : (xs ys : List Token) (o : Seen Token When) → xs ≡ t.Keyword k.Not ∷ ys → Reads not_words behind_sets ys o →
-    Reads when_behind behind_sets xs o
-unfolding when_behind not_words
-when_not xs ys o e r =
-    (leads_right (word k.Matched (then change when_of.Matched)) (word k.Not not_words) behind_sets xs
-    (bars_token behind_sets (t.Keyword k.Matched) (then change when_of.Matched) 0 xs (λ n. cc (e, n)))).to o
-    (word_read (t.Keyword k.Not) not_words behind_sets xs ys o e r)
+-- NOT stands there, so MATCHED does not
+not_first : (xs ys : List Token) → xs ≡ t.Keyword k.Not ∷ ys → Misses (t.Keyword k.Matched) xs
+not_first xs ys e = record { misses = λ n. cc (e, n) }
 
 pub when_not_matched : (xs ys zs : List Token) (o : Seen Token When) → xs ≡ t.Keyword k.Not ∷ ys →
     ys ≡ t.Keyword k.Matched ∷ zs → Reads not_matched behind_sets zs o → Reads when_behind behind_sets xs o
-unfolding not_words
-when_not_matched xs ys zs o e i r =
-    when_not xs ys o e (word_read (t.Keyword k.Matched) not_matched behind_sets ys zs o i r)
+unfolding when_behind
+when_not_matched xs ys zs o e i r = other (not_first xs ys e) (word_then e (word_then i r))
 
 pub when_no_matched : (xs ys : List Token) (l : ℕ) → xs ≡ t.Keyword k.Not ∷ ys → Misses (t.Keyword k.Matched) ys →
     l ≡ length ys → Reads when_behind behind_sets xs (failed (Syntax l))
-unfolding not_words
-when_no_matched xs ys l e miss q =
-    when_not xs ys (failed (Syntax l)) e (word_missed
-    (t.Keyword k.Matched) not_matched behind_sets ys l miss q spelled_not_matched)
+unfolding when_behind
+when_no_matched xs ys l e miss q = other (not_first xs ys e) (word_then e (no_word spelled_not_matched miss q))
 
 pub when_neither : (xs : List Token) (l : ℕ) → Misses (t.Keyword k.Matched) xs → Misses (t.Keyword k.Not) xs →
     l ≡ length xs → Reads when_behind behind_sets xs (failed (Syntax l))
-unfolding when_behind not_words
-when_neither xs l a b q =
-    reads_refused when_behind behind_sets xs l
-    (bars_either behind_sets (word k.Matched (then change when_of.Matched)) (word k.Not not_words) 1 xs
-    (bars_token behind_sets (t.Keyword k.Matched) (then change when_of.Matched) 0 xs (λ n. a.misses n))
-    (bars_token behind_sets (t.Keyword k.Not) not_words 0 xs (λ n. b.misses n))) spelled_when_behind q
+unfolding when_behind
+when_neither xs l a b q = neither_word (spelled_then change when_of.Matched spelled_the_change) a b q
 
 -- when {when}
 after_when : List When → When → Lang Token (List When)
@@ -430,3 +213,6 @@ unfolding whens when first_when
 starts_whens b g h =
     starts_bind b any g (word k.When when_behind) first_when (starts_token b any (t.Keyword k.When) when_behind h)
     (λ w. starts_any (first_when w) g)
+
+-- what the clauses answer: their start, one more, and their end
+pub ruleset clauses = (whens_no_when, whens_not_begun, whens_begun, whens_go_on, whens_break_off, whens_end)

@@ -1,19 +1,9 @@
 -- The parts that rules name: each has a word and one reading before what may stand behind it, by level; and what a
 -- function of the parser answers for it says so.
-use Rattle.std.proofs.Common.{◌≡◌, ℕ, suc, true, [], refl}
-use Rattle.std.proofs.Math.Dec.{leb}
-use Rattle.pg_grammar.specs.Languages.{one}
-use Rattle.pg_grammar.proofs.Words.{Starts}
+use Rattle.std.proofs.Common.{◌≡◌, ℕ, suc, true, [], refl, leb}
+use Rattle.pg_parse_stmt.proofs.Common.{one, Starts, behind_expr, expr, any, behind_limit, behind_locking, behind_table, behind_condition, behind_items, behind_sets, behind_from, word, or_else, name, table_ref, sets, condition, from, returning, items, elements, source, order, limit, locked, locking, whens, integer_of, spelled_or_else, spelled_sets, spelled_name, spelled_expr, spelled_items, spelled_elements, spelled_source, Known, starts_any, own, rank, behind}
 use Rattle.pg_lexer.specs.declared.keyword.Keyword.TheVariants as k
 use Rattle.pg_lexer.specs.declared.token.Token.TheVariants as t
-use Rattle.pg_parse_expr.specs.Behind.{behind_expr}
-use Rattle.pg_parse_expr.specs.Grammar.{expr}
-use Rattle.pg_parse_stmt.specs.Behind.{any, behind_limit, behind_locking, behind_table, behind_condition, behind_items, behind_sets, behind_from}
-use Rattle.pg_parse_stmt.specs.Forms.{word, or_else}
-use Rattle.pg_parse_stmt.specs.Grammar.{name, table_ref, sets, condition, from, returning, items, elements, source, order, limit, locked, locking, whens}
-use Rattle.pg_parse_stmt.specs.Words.{integer_of}
-use Rattle.pg_parse_stmt.specs.Spellings.{spelled_or_else, spelled_sets, spelled_name, spelled_expr, spelled_items, spelled_elements, spelled_source}
-use Rattle.pg_grammar.proofs.Rules.{Known}
 use Rattle.pg_parse_stmt.proofs.Tables.{spelled_table_ref}
 use Rattle.pg_parse_stmt.proofs.Conditions.{spelled_where}
 use Rattle.pg_parse_stmt.proofs.Orders.{spelled_returning, spelled_order, spelled_limit}
@@ -22,9 +12,7 @@ use Rattle.pg_parse_stmt.proofs.Sources.{spelled_sources}
 use Rattle.pg_parse_stmt.proofs.Merges.{spelled_whens, starts_whens}
 use Rattle.pg_parse_stmt.proofs.AgreeParts.{expr_follows}
 use Rattle.pg_parse_stmt.proofs.Follows.{statement_behind, table_follows, sets_follows, from_follows, condition_follows, items_follows, limit_follows, locking_follows}
-use Rattle.pg_grammar.proofs.Fitting.{starts_any, own}
 use Rattle.pg_parse_stmt.proofs.Agreements.{starts_or_at, starts_optional_at}
-use Rattle.pg_parse_stmt.specs.Ranks.{rank, behind}
 
 -- the parts
 pub known_name : Known any any name

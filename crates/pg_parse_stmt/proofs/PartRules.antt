@@ -1,40 +1,16 @@
 -- Parts of statements as rules.
-use Rattle.std.proofs.Common.{◌≡◌, Bool, true, false, List, [], Option, Some, refl}
-use Rattle.std.specs.Prelude.{not, ◌&&◌}
-use Rattle.std.proofs.lemmas.Bool.{and_from}
-use Rattle.pg_grammar.specs.Answers.{Seen, Reads}
-use Rattle.pg_grammar.specs.Languages.{Lang, one, bind, more}
-use Rattle.pg_grammar.proofs.Words.{Starts, Spelled, starts_token, starts_bind, spelled_more}
+use Rattle.std.proofs.Common.{◌≡◌, Bool, true, false, List, [], Option, Some, refl, not, ◌&&◌}
+use Rattle.pg_parse_stmt.proofs.Common.{and_from, Seen, Reads, Lang, one, bind, more, Starts, Spelled, starts_token, starts_bind, spelled_more, Token, spelling, behind_expr, expr, Tree, any, is_word, is_comma, behind_list, behind_as, behind_item, behind_columns, behind_sets, behind_condition, behind_conflict, behind_order_key, behind_direction, behind_nulls, behind_of, behind_wait, behind_locked, behind_guard, behind_part, behind_constraint_name, word, optional, committed, name, as_name, named_expr, assignment, sets, condition, elements, tuple, columns, direction, nulls, nulls_by, order_key, strength, of_table, lock_wait, locked, target_elements, target_constraint, upsert, addition_insert, then, next_rule, column_part, table_constraint_behind, constraint_part, column_constraint_named, column_rule_behind, spelled_name, spelled_expr, spelled_sets, spelled_elements, spelled_tuple, spelled_kind, spelled_constraint, spelled_optional, nulls_of, kind_of, constraint_of, Item, Assignment, OrderKey, Locking, ConflictTarget, Conflict, Addition, When, TablePart, ColumnRule, StmtTree, Rule, maybe, Fits, starts_any, starts_before, spelled, less, own, Comes}
 use Rattle.pg_lexer.specs.declared.keyword.Keyword.TheVariants as k
 use Rattle.pg_lexer.specs.declared.sign.Sign.TheVariants as s
-use Rattle.pg_lexer.specs.declared.token.Token.{Token}
 use Rattle.pg_lexer.specs.declared.token.Token.TheVariants as t
-use Rattle.pg_lexer.specs.Keywords.{spelling}
-use Rattle.pg_parse_expr.specs.Behind.{behind_expr}
-use Rattle.pg_parse_expr.specs.Grammar.{expr}
-use Rattle.pg_parse_expr.specs.Tree.{Tree}
-use Rattle.pg_parse_stmt.specs.Behind.{any, is_word, is_comma, behind_list, behind_as, behind_item, behind_columns, behind_sets, behind_condition, behind_conflict, behind_order_key, behind_direction, behind_nulls, behind_of, behind_wait, behind_locked, behind_guard, behind_part, behind_constraint_name}
-use Rattle.pg_parse_stmt.specs.Forms.{word, optional}
-use Rattle.pg_parse_stmt.specs.Grammar.{committed, name, as_name, named_expr, assignment, sets, condition, elements, tuple, columns, direction, nulls, nulls_by, order_key, strength, of_table, lock_wait, locked, target_elements, target_constraint, upsert, addition_insert, then, next_rule, column_part, table_constraint_behind, constraint_part, column_constraint_named, column_rule_behind}
-use Rattle.pg_parse_stmt.specs.Spellings.{spelled_name, spelled_expr, spelled_sets, spelled_elements, spelled_tuple, spelled_kind, spelled_constraint, spelled_optional}
-use Rattle.pg_parse_stmt.specs.Words.{nulls_of, kind_of, constraint_of}
-use Rattle.pg_parse_stmt.specs.declared.tree.Item.{Item}
 use Rattle.pg_parse_stmt.specs.declared.tree.Item.TheVariants as item_of
-use Rattle.pg_parse_stmt.specs.declared.tree.Assignment.{Assignment}
-use Rattle.pg_parse_stmt.specs.declared.tree.OrderKey.{OrderKey}
-use Rattle.pg_parse_stmt.specs.declared.tree.Locking.{Locking}
-use Rattle.pg_parse_stmt.specs.declared.tree.ConflictTarget.{ConflictTarget}
 use Rattle.pg_parse_stmt.specs.declared.tree.ConflictTarget.TheVariants as target_of
-use Rattle.pg_parse_stmt.specs.declared.tree.Conflict.{Conflict}
 use Rattle.pg_parse_stmt.specs.declared.tree.Conflict.TheVariants as conflict_of
-use Rattle.pg_parse_stmt.specs.declared.tree.Addition.{Addition}
 use Rattle.pg_parse_stmt.specs.declared.tree.Addition.TheVariants as addition_of
-use Rattle.pg_parse_stmt.specs.declared.tree.When.{When}
-use Rattle.pg_parse_stmt.specs.declared.tree.TablePart.{TablePart}
 use Rattle.pg_parse_stmt.specs.declared.tree.TablePart.TheVariants as part_of
-use Rattle.pg_parse_stmt.specs.declared.tree.ColumnRule.{ColumnRule}
-use Rattle.pg_parse_stmt.specs.declared.tree.StmtTree.{StmtTree}
 use Rattle.pg_parse_stmt.specs.declared.word.RuleWord.TheVariants as rule_word
+use Rattle.pg_grammar.proofs.Rules as rule
 use Rattle.pg_parse_stmt.proofs.Lists.{and_left}
 use Rattle.pg_parse_stmt.proofs.Steps.{and_right, starts_optional}
 use Rattle.pg_parse_stmt.proofs.Following.{as_behind_expr, expr_direction, nulls_behind_expr, nulls_behind_direction, where_behind_sets, values_behind_columns, then_behind_guard, nowait_behind_of, skip_behind_of}
@@ -45,10 +21,7 @@ use Rattle.pg_parse_stmt.proofs.Locks.{spelled_strength, spelled_of, spelled_wai
 use Rattle.pg_parse_stmt.proofs.Orders.{spelled_direction, starts_direction, spelled_nulls}
 use Rattle.pg_parse_stmt.proofs.Constraints.{spelled_named_constraint}
 use Rattle.pg_parse_stmt.proofs.Parts.{spelled_by_word, starts_by_word}
-use Rattle.pg_grammar.proofs.Rules.{Rule, token, maybe, gives, Fits}
-use Rattle.pg_grammar.proofs.Rules as rule
-use Rattle.pg_grammar.proofs.Fitting.{starts_any, starts_before, spelled, less, own}
-use Rattle.pg_grammar.proofs.Reading.{Comes}
+use Rattle.pg_grammar.proofs.Rules.{token, gives}
 use Rattle.pg_parse_stmt.proofs.Starting.{or_starts, optional_starts}
 
 item_expr : (o : Option Token) → behind_item o ≡ true → behind_expr o ≡ true

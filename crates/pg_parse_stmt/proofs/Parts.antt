@@ -1,42 +1,14 @@
 -- Defaults, columns and the parts of CREATE TABLE
-use Rattle.std.proofs.Common.{◌≡◌, ◌∷◌, ◌++◌, ℕ, Bool, true, false, List, [], length, Option, Some, None, refl, sym, ap, ◌∙◌}
-use Rattle.std.specs.Prelude.{not}
-use Rattle.pg_grammar.specs.declared.fault.Fault.{Fault}
-use Rattle.pg_grammar.specs.declared.fault.Fault.TheVariants.{Syntax}
-use Rattle.pg_grammar.specs.Languages.{Lang, Took, gives, one, bind, more}
-use Rattle.pg_grammar.specs.Answers.{next, Misses, Lacks, Seen, read, failed, Reads}
-use Rattle.pg_grammar.proofs.Words.{Starts, Bars, Spelled, starts_one, starts_bind, spelled_gives, spelled_bind, bars_token, bars_one, bars_bind}
-use Rattle.pg_grammar.proofs.Combining.{reads_gives, reads_one, reads_bind_failed, leads_left, leads_right}
+use Rattle.std.proofs.Common.{◌≡◌, ◌∷◌, ◌++◌, ℕ, Bool, true, false, List, [], length, Option, Some, None, refl, sym, ap, ◌∙◌, not, subst, pos, neg_ℤ, is_some}
+use Rattle.pg_parse_stmt.proofs.Common.{Fault, Syntax, Lang, Took, gives, one, bind, more, next, Misses, Lacks, Seen, read, failed, Reads, Starts, Bars, Spelled, starts_one, starts_bind, spelled_gives, spelled_bind, bars_token, bars_one, bars_bind, reads_gives, reads_one, reads_bind_failed, leads_left, leads_right, Token, has, name_of, value_of, any, behind_part, word, sign, optional, rule_of, false≢true, Leads, leads_on, reads_narrow, spelled_more, bars_from, leads_bind, leads_more, leads_no_more, leads_assoc, leads_gives, leads_one, may_be_name, begins_constraint, name, default, column_rule_behind, next_rule, column_part, table_constraint_behind, constraint_part, part, spelled_constraint, kind_of, constraint_of, negative_of, Value, ConstraintWord, RuleWord, ColumnRule, TableConstraint, TablePart}
+use Rattle.pg_parse_stmt.proofs.Forms.{part_then, no_part}
 use Rattle.pg_lexer.specs.declared.keyword.Keyword.TheVariants as k
 use Rattle.pg_lexer.specs.declared.sign.Sign.TheVariants as s
-use Rattle.pg_lexer.specs.declared.token.Token.{Token}
 use Rattle.pg_lexer.specs.declared.token.Token.TheVariants as t
-use Rattle.pg_parse_expr.specs.Behind.{has}
-use Rattle.pg_parse_expr.specs.Operators.{name_of, value_of}
-use Rattle.pg_parse_stmt.specs.Behind.{any, behind_part}
-use Rattle.pg_parse_stmt.specs.Forms.{word, sign, optional}
-use Rattle.pg_parse_stmt.specs.Words.{rule_of}
-use Rattle.pg_parse_stmt.proofs.Lists.{starts_any}
-use Rattle.pg_parse_stmt.proofs.Steps.{word_read, part_read, starts_optional}
-use Rattle.std.proofs.lemmas.Bool.{false≢true}
-use Rattle.std.proofs.Common.{subst}
-use Rattle.std.specs.Prelude.{pos, neg_ℤ, is_some}
-use Rattle.pg_grammar.proofs.Leading.{Leads, leads_on, reads_narrow}
-use Rattle.pg_grammar.proofs.Words.{spelled_more, bars_from}
-use Rattle.pg_grammar.proofs.Combining.{leads_bind, leads_more, leads_no_more, leads_assoc, leads_gives, leads_one}
-use Rattle.pg_lexer.specs.Keywords.{may_be_name}
-use Rattle.pg_parse_stmt.specs.Behind.{begins_constraint}
-use Rattle.pg_parse_stmt.specs.Grammar.{name, default, column_rule_behind, next_rule, column_part, table_constraint_behind, constraint_part, part}
-use Rattle.pg_parse_stmt.specs.Spellings.{spelled_constraint}
-use Rattle.pg_parse_stmt.specs.Words.{kind_of, constraint_of, negative_of}
-use Rattle.pg_values.specs.declared.value.Value.{Value}
 use Rattle.pg_values.specs.declared.value.Value.TheVariants as value
-use Rattle.pg_parse_stmt.specs.declared.word.ConstraintWord.{ConstraintWord}
-use Rattle.pg_parse_stmt.specs.declared.word.RuleWord.{RuleWord}
-use Rattle.pg_parse_stmt.specs.declared.tree.ColumnRule.{ColumnRule}
-use Rattle.pg_parse_stmt.specs.declared.tree.TableConstraint.{TableConstraint}
-use Rattle.pg_parse_stmt.specs.declared.tree.TablePart.{TablePart}
 use Rattle.pg_parse_stmt.specs.declared.tree.TablePart.TheVariants as part_of
+use Rattle.pg_parse_stmt.proofs.Lists.{starts_any}
+use Rattle.pg_parse_stmt.proofs.Steps.{word_read, starts_optional}
 use Rattle.pg_parse_stmt.proofs.Exits.{reads_lacks, lacks_first, lacks_end}
 use Rattle.pg_parse_stmt.proofs.Constraints.{spelled_table_constraint}
 
@@ -165,15 +137,11 @@ spelled_by_word = spelled_bind (one constraint_of) table_constraint_behind spell
 pub word_constraint_read : (xs ys : List Token) (w : ConstraintWord) (o : Seen Token TableConstraint) →
     Reads (one constraint_of) any xs (read w ys) → Reads (table_constraint_behind w) any ys o →
     Reads (bind (one constraint_of) table_constraint_behind) any xs o
-word_constraint_read xs ys w o r q =
-    part_read (one constraint_of) table_constraint_behind any any xs ys w o r
-    (λ u. starts_any (table_constraint_behind u) any) q
+word_constraint_read xs ys w o r q = part_then r q
 
 pub word_constraint_failed : (xs : List Token) (f : Fault) → Reads (one constraint_of) any xs (failed f) →
     Reads (bind (one constraint_of) table_constraint_behind) any xs (failed f)
-word_constraint_failed xs f r =
-    reads_bind_failed (one constraint_of) table_constraint_behind any any xs f r
-    (λ u. starts_any (table_constraint_behind u) any) spelled_table_constraint
+word_constraint_failed xs f r = no_part spelled_table_constraint r
 
 by_words : (b : Option Token → Bool) → b (Some (t.Keyword k.Primary)) ≡ true → b (Some (t.Keyword k.Unique)) ≡ true →
     b (Some (t.Keyword k.Check)) ≡ true →

@@ -1,14 +1,8 @@
 -- Reserved words as names.
 use Rattle.std.proofs.Common.{◌≡◌, ◌∷◌, ℕ, true, false, List, Some, refl, subst, inl, inr}
-use Rattle.pg_grammar.specs.Limits.{Limit}
-use Rattle.pg_lexer.specs.declared.keyword.Keyword.{Keyword}
+use Rattle.pg_parse_stmt.proofs.Common.{Limit, Keyword, Token, may_be_name, spelling, name_of, name, alias, bare_name_of}
 use Rattle.pg_lexer.specs.declared.keyword.Keyword.TheVariants as k
-use Rattle.pg_lexer.specs.declared.token.Token.{Token}
 use Rattle.pg_lexer.specs.declared.token.Token.TheVariants as token_of
-use Rattle.pg_lexer.specs.Keywords.{may_be_name, spelling}
-use Rattle.pg_parse_expr.specs.Operators.{name_of}
-use Rattle.pg_parse_stmt.specs.Grammar.{name, alias}
-use Rattle.pg_parse_stmt.specs.Words.{bare_name_of}
 
 no_name : (reserved : Keyword) (v : List ℕ) → may_be_name reserved ≡ false →
     name_of (token_of.Keyword reserved) ≡ Some v → ⊥

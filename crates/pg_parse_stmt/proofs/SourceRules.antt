@@ -1,28 +1,16 @@
 -- Subselects and sources in brackets as rules.
 use Rattle.std.proofs.Common.{ℕ, List}
-use Rattle.pg_grammar.specs.Answers.{Seen, Reads}
-use Rattle.pg_grammar.specs.Languages.{one}
-use Rattle.pg_grammar.proofs.Words.{Spelled, spelled_left, spelled_token}
+use Rattle.pg_parse_stmt.proofs.Common.{Seen, Reads, one, Spelled, spelled_left, spelled_token, Token, any, behind_condition, behind_items, behind_from, behind_tuples, behind_subselect, word, in_brackets, name, names, alias, items, condition, tuples, table_source, one_source, from_of, subselect, values_source, query_source, bare_name_of, spelled_name, spelled_names, spelled_items, spelled_tuples, spelled_in_brackets, Source, Subselect, Rule, maybe, Fits, starts_any, spelled, less, own, Comes}
 use Rattle.pg_lexer.specs.declared.keyword.Keyword.TheVariants as k
 use Rattle.pg_lexer.specs.declared.sign.Sign.TheVariants as s
-use Rattle.pg_lexer.specs.declared.token.Token.{Token}
 use Rattle.pg_lexer.specs.declared.token.Token.TheVariants as t
-use Rattle.pg_parse_stmt.specs.Behind.{any, behind_condition, behind_items, behind_from, behind_tuples, behind_subselect}
-use Rattle.pg_parse_stmt.specs.Forms.{word, in_brackets}
-use Rattle.pg_parse_stmt.specs.Grammar.{name, names, alias, items, condition, tuples, table_source, one_source, from_of, subselect, values_source, query_source}
-use Rattle.pg_parse_stmt.specs.Words.{bare_name_of}
-use Rattle.pg_parse_stmt.specs.Spellings.{spelled_name, spelled_names, spelled_items, spelled_tuples, spelled_in_brackets}
-use Rattle.pg_parse_stmt.specs.declared.tree.Source.{Source}
 use Rattle.pg_parse_stmt.specs.declared.tree.Source.TheVariants as source_of
-use Rattle.pg_parse_stmt.specs.declared.tree.Subselect.{Subselect}
+use Rattle.pg_grammar.proofs.Rules as rule
 use Rattle.pg_parse_stmt.proofs.Conditions.{spelled_where}
 use Rattle.pg_parse_stmt.proofs.Sources.{spelled_tables}
 use Rattle.pg_parse_stmt.proofs.Following.{from_behind_items, where_behind_from, subselect_end_behind_condition, subselect_end_behind_from, close_behind_tuples, close_behind_subselect}
 use Rattle.pg_parse_stmt.proofs.Starting.{optional_starts}
-use Rattle.pg_grammar.proofs.Rules.{Rule, token, maybe, gives, Fits}
-use Rattle.pg_grammar.proofs.Rules as rule
-use Rattle.pg_grammar.proofs.Fitting.{starts_any, spelled, less, own}
-use Rattle.pg_grammar.proofs.Reading.{Comes}
+use Rattle.pg_grammar.proofs.Rules.{token, gives}
 
 -- items FROM from [WHERE expr], behind SELECT
 abbrev pub subselect_rule : ℕ → Rule Token Subselect

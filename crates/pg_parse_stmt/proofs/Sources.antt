@@ -1,9 +1,6 @@
 -- Sources, and what they are seen as in a list.
 use Rattle.std.proofs.Common.{◌∷◌, ℕ, []}
-use Rattle.pg_grammar.specs.Languages.{more}
-use Rattle.pg_grammar.proofs.Words.{Spelled, spelled_bind, spelled_more}
-use Rattle.pg_parse_stmt.specs.Grammar.{SourceRule, table_source, one_source, alone, next_source, from_of, from, source, sources_of}
-use Rattle.pg_parse_stmt.specs.Spellings.{spelled_table_source, spelled_source}
+use Rattle.pg_parse_stmt.proofs.Common.{more, Spelled, spelled_bind, spelled_more, SourceRule, table_source, one_source, alone, next_source, from_of, from, source, sources_of, spelled_table_source, spelled_source}
 use Rattle.pg_parse_stmt.proofs.Froms.{spelled_alone}
 
 pub spelled_from : {S : Type 0} (source : SourceRule S) (count : S → ℕ) (n : ℕ) → Spelled (source n) →

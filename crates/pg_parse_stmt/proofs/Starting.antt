@@ -1,10 +1,6 @@
 -- What may be left out begins with its word, or with what may stand behind it.
 use Rattle.std.proofs.Common.{◌≡◌, Bool, true, Option, Some, None}
-use Rattle.pg_grammar.specs.Languages.{Lang, token, gives, bind}
-use Rattle.pg_grammar.proofs.Words.{Starts, starts_token, starts_either, starts_gives}
-use Rattle.pg_lexer.specs.declared.token.Token.{Token}
-use Rattle.pg_parse_stmt.specs.Behind.{any}
-use Rattle.pg_parse_stmt.specs.Forms.{or_else, optional}
+use Rattle.pg_parse_stmt.proofs.Common.{Lang, token, gives, bind, Starts, starts_token, starts_either, starts_gives, Token, any, or_else, optional}
 use Rattle.pg_parse_stmt.proofs.Agreements.{starts_first}
 
 pub or_starts : {V : Type 0} (f g : Option Token → Bool) (x : V) (u : Token) (L : Lang Token V) → f (Some u) ≡ true →

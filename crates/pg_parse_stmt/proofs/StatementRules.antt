@@ -1,31 +1,14 @@
 -- The statements as rules: what each has behind its first word.
 use Rattle.std.proofs.Common.{List, []}
-use Rattle.pg_grammar.specs.Answers.{Seen, Reads}
-use Rattle.pg_grammar.proofs.Words.{Spelled}
-use Rattle.pg_grammar.proofs.Agreeing.{Agree}
+use Rattle.pg_parse_stmt.proofs.Common.{Seen, Reads, Spelled, Agree, Token, behind_expr, expr, any, behind_table, behind_sets, behind_condition, behind_from, behind_items, behind_limit, behind_locking, behind_statement, word, or_else, list_of, in_brackets, name, items, order, limit, locking, elements, source, whens, part, table_ref, sets, condition, from, returning, select, update, delete, merge, create_table, create_index, spelled_in_brackets, spelled_list, spelled_part, Select, Update, Delete, Merge, StmtTree, rank, behind, Rule, maybe, Known, Fits, Ones, spelled, agrees, Comes}
 use Rattle.pg_lexer.specs.declared.keyword.Keyword.TheVariants as k
-use Rattle.pg_lexer.specs.declared.token.Token.{Token}
 use Rattle.pg_lexer.specs.declared.token.Token.TheVariants as t
-use Rattle.pg_parse_expr.specs.Behind.{behind_expr}
-use Rattle.pg_parse_expr.specs.Grammar.{expr}
-use Rattle.pg_parse_stmt.specs.Behind.{any, behind_table, behind_sets, behind_condition, behind_from, behind_items, behind_limit, behind_locking, behind_statement}
-use Rattle.pg_parse_stmt.specs.Forms.{word, or_else, list_of, in_brackets}
-use Rattle.pg_parse_stmt.specs.Grammar.{name, items, order, limit, locking, elements, source, whens, part, table_ref, sets, condition, from, returning, select, update, delete, merge, create_table, create_index}
-use Rattle.pg_parse_stmt.specs.Spellings.{spelled_in_brackets, spelled_list, spelled_part}
-use Rattle.pg_parse_stmt.specs.declared.tree.Select.{Select}
-use Rattle.pg_parse_stmt.specs.declared.tree.Update.{Update}
-use Rattle.pg_parse_stmt.specs.declared.tree.Delete.{Delete}
-use Rattle.pg_parse_stmt.specs.declared.tree.Merge.{Merge}
-use Rattle.pg_parse_stmt.specs.declared.tree.StmtTree.{StmtTree}
 use Rattle.pg_parse_stmt.specs.declared.tree.StmtTree.TheVariants as stmt
-use Rattle.pg_parse_stmt.specs.Ranks.{rank, behind}
+use Rattle.pg_grammar.proofs.Rules as rule
 use Rattle.pg_parse_stmt.proofs.AgreeParts.{single_expr, agree_name, agree_table_ref, agree_source, agree_items, agree_sets, agree_elements, agree_condition, agree_returning, agree_from, agree_from_word}
 use Rattle.pg_parse_stmt.proofs.AgreeStatements.{agree_order, agree_limit, agree_locking, agree_whens}
 use Rattle.pg_parse_stmt.proofs.AgreeCreates.{agree_parts}
-use Rattle.pg_grammar.proofs.Rules.{Rule, token, maybe, gives, Known, Fits, Ones}
-use Rattle.pg_grammar.proofs.Rules as rule
-use Rattle.pg_grammar.proofs.Fitting.{spelled, agrees}
-use Rattle.pg_grammar.proofs.Reading.{Comes}
+use Rattle.pg_grammar.proofs.Rules.{token, gives}
 use Rattle.pg_parse_stmt.proofs.Named.{parts}
 
 -- the parts have one reading

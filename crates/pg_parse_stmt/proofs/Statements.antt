@@ -1,44 +1,19 @@
 -- A statement by its first word, and one on a line of its own.
-use Rattle.std.proofs.Common.{◌≡◌, ◌∷◌, ℕ, true, false, List, Option, Some, None, Err, Result, refl, sym, ap, ◌∙◌, subst}
-use Rattle.std.specs.Prelude.{not}
-use Rattle.pg_grammar.specs.declared.fault.Fault.{Fault}
-use Rattle.pg_grammar.specs.Languages.{Lang, gives, one, bind, either}
-use Rattle.pg_grammar.specs.Answers.{next, Misses, Seen, read, failed, Reads, ReadsWhole, ends, whole_of}
-use Rattle.pg_grammar.proofs.Words.{Starts, Spelled, starts_gives, starts_token, starts_either, spelled_gives, spelled_bind, spelled_left, bars_token, bars_gives, bars_either}
-use Rattle.pg_grammar.proofs.Combining.{reads_gives, reads_bind_failed, leads_left, leads_right}
-use Rattle.pg_grammar.proofs.Leading.{reads_narrow}
-use Rattle.pg_grammar.proofs.Sentences.{reads_whole}
+use Rattle.std.proofs.Common.{◌≡◌, ◌∷◌, ℕ, true, false, List, Option, Some, None, Err, Result, refl, sym, subst, not}
+use Rattle.pg_parse_stmt.proofs.Common.{Fault, Lang, gives, one, bind, either, Misses, Seen, read, failed, Reads, ReadsWhole, ends, whole_of, Starts, Spelled, starts_gives, starts_token, starts_either, spelled_bind, spelled_left, bars_token, reads_gives, reads_bind_failed, leads_left, reads_narrow, Token, spelling, any, is_word, behind_begin, behind_statement, behind_transaction, word, sign, or_else, committed, isolation, transaction, begin, select, insert, update, delete, merge, create_table, create_index, statement_behind, statement, sentence, spelled_or_else, lead_of, Lead, Select, Insert, Update, Delete, Merge, StmtTree}
+use Rattle.pg_parse_stmt.proofs.Forms.{nothing, word_alone, part_then, no_part, made_read, made_failed, spelled_made, one_word, other, there, next_is, left_out, both_left_out, before_any}
 use Rattle.pg_lexer.specs.declared.keyword.Keyword.TheVariants as k
 use Rattle.pg_lexer.specs.declared.sign.Sign.TheVariants as s
-use Rattle.pg_lexer.specs.declared.token.Token.{Token}
 use Rattle.pg_lexer.specs.declared.token.Token.TheVariants as t
-use Rattle.pg_lexer.specs.Keywords.{spelling}
-use Rattle.pg_parse_stmt.specs.Behind.{any, is_word, behind_begin, behind_statement, behind_transaction}
-use Rattle.pg_parse_stmt.specs.Forms.{word, sign, or_else}
-use Rattle.pg_parse_stmt.specs.Grammar.{committed, isolation, transaction, begin, select, insert, update, delete, merge, create_table, create_index, statement_behind, statement, sentence}
-use Rattle.pg_parse_stmt.specs.Spellings.{spelled_or_else}
-use Rattle.pg_parse_stmt.specs.Words.{lead_of}
-use Rattle.pg_parse_stmt.specs.declared.word.Lead.{Lead}
 use Rattle.pg_parse_stmt.specs.declared.word.Lead.TheVariants as lead
-use Rattle.pg_parse_stmt.specs.declared.tree.Select.{Select}
-use Rattle.pg_parse_stmt.specs.declared.tree.Insert.{Insert}
-use Rattle.pg_parse_stmt.specs.declared.tree.Update.{Update}
-use Rattle.pg_parse_stmt.specs.declared.tree.Delete.{Delete}
-use Rattle.pg_parse_stmt.specs.declared.tree.Merge.{Merge}
-use Rattle.pg_parse_stmt.specs.declared.tree.StmtTree.{StmtTree}
 use Rattle.pg_parse_stmt.specs.declared.tree.StmtTree.TheVariants as stmt
-use Rattle.pg_parse_stmt.proofs.Lists.{starts_any, and_left}
-use Rattle.pg_parse_stmt.proofs.Steps.{word_read, part_read, or_read, or_none}
+use Rattle.pg_grammar.proofs.Sentences.{reads_whole}
+use Rattle.pg_parse_stmt.proofs.Lists.{and_left}
+use Rattle.pg_parse_stmt.proofs.Steps.{part_read, or_read, or_none}
 use Rattle.pg_parse_stmt.proofs.StatementRules.{spelled_select, spelled_update, spelled_delete, spelled_merge, spelled_create_table}
 use Rattle.pg_parse_stmt.proofs.InsertRules.{spelled_insert}
 
 -- [WORK | TRANSACTION]
-work_word : StmtTree → Lang Token StmtTree
-work_word x = word k.Work (gives x)
-
-transaction_word : StmtTree → Lang Token StmtTree
-transaction_word x = word k.Transaction (gives x)
-
 work_goes_on : behind_transaction (Some (t.Keyword k.Work)) ≡ false
 unfolding behind_transaction is_word spelling
 work_goes_on = refl
@@ -47,46 +22,21 @@ transaction_goes_on : behind_transaction (Some (t.Keyword k.Transaction)) ≡ fa
 unfolding behind_transaction is_word spelling
 transaction_goes_on = refl
 
--- where one of the two words stands, nothing is left out
-written : (x : StmtTree) (xs : List Token) (o : Seen Token StmtTree) → behind_transaction (next xs) ≡ false →
-    Reads (either (work_word x) (transaction_word x)) behind_transaction xs o → Reads
-    (transaction x) behind_transaction xs o
-unfolding transaction work_word transaction_word
-written x xs o h r =
-    (leads_left (either (word k.Work (gives x)) (word k.Transaction (gives x))) (gives x) behind_transaction xs
-    (bars_gives behind_transaction x 0 xs h)).to o r
-
 pub work_read : (x : StmtTree) (xs ys : List Token) → xs ≡ t.Keyword k.Work ∷ ys →
     Reads (transaction x) behind_transaction xs (read x ys)
-unfolding work_word transaction_word
-work_read x xs ys e =
-    written x xs (read x ys) (ap (λ z. behind_transaction (next z)) e ∙ work_goes_on)
-    ((leads_left (word k.Work (gives x)) (word k.Transaction (gives x)) behind_transaction xs
-    (bars_token behind_transaction (t.Keyword k.Transaction) (gives x) 0 xs (λ n. cc (e, n)))).to (read x ys)
-    (word_read (t.Keyword k.Work) (gives x) behind_transaction xs ys (read x ys) e
-    (reads_gives x x behind_transaction ys refl)))
+unfolding transaction
+work_read x xs ys e = there (next_is behind_transaction e work_goes_on) (one_word (λ h. cc h) e nothing)
 
 pub transaction_read : (x : StmtTree) (xs ys : List Token) → Misses (t.Keyword k.Work) xs →
-    xs ≡ t.Keyword k.Transaction ∷ ys →
-    Reads (transaction x) behind_transaction xs (read x ys)
-unfolding work_word transaction_word
+    xs ≡ t.Keyword k.Transaction ∷ ys → Reads (transaction x) behind_transaction xs (read x ys)
+unfolding transaction
 transaction_read x xs ys miss e =
-    written x xs (read x ys) (ap (λ z. behind_transaction (next z)) e ∙ transaction_goes_on)
-    ((leads_right (word k.Work (gives x)) (word k.Transaction (gives x)) behind_transaction xs
-    (bars_token behind_transaction (t.Keyword k.Work) (gives x) 0 xs (λ n. miss.misses n))).to (read x ys)
-    (word_read (t.Keyword k.Transaction) (gives x) behind_transaction xs ys (read x ys) e
-    (reads_gives x x behind_transaction ys refl)))
+    there (next_is behind_transaction e transaction_goes_on) (other miss (word_alone e))
 
 pub neither_read : (x : StmtTree) (xs : List Token) → Misses (t.Keyword k.Work) xs →
-    Misses (t.Keyword k.Transaction) xs →
-    Reads (transaction x) behind_transaction xs (read x xs)
+    Misses (t.Keyword k.Transaction) xs → Reads (transaction x) behind_transaction xs (read x xs)
 unfolding transaction
-neither_read x xs a b =
-    (leads_right (either (word k.Work (gives x)) (word k.Transaction (gives x))) (gives x) behind_transaction xs
-    (bars_either behind_transaction (word k.Work (gives x)) (word k.Transaction (gives x)) 1 xs
-    (bars_token behind_transaction (t.Keyword k.Work) (gives x) 0 xs (λ n. a.misses n))
-    (bars_token behind_transaction (t.Keyword k.Transaction) (gives x) 0 xs (λ n. b.misses n)))).to (read x xs)
-    (reads_gives x x behind_transaction xs refl)
+neither_read x xs a b = both_left_out a b
 
 -- [ISOLATION LEVEL READ COMMITTED]
 isolation_goes_on : behind_begin (Some (t.Keyword k.Isolation)) ≡ false
@@ -106,13 +56,12 @@ pub isolation_on : (x : StmtTree) (xs ys : List Token) (o : Seen Token StmtTree)
     Reads (committed x) any ys o → Reads (isolation x) behind_begin xs o
 unfolding isolation
 isolation_on x xs ys o e r =
-    or_read x (t.Keyword k.Isolation) (committed x) behind_begin xs ys o isolation_goes_on e
-    (reads_narrow (committed x) any behind_begin ys o (λ q h. refl) r)
+    or_read x (t.Keyword k.Isolation) (committed x) behind_begin xs ys o isolation_goes_on e (before_any r)
 
 pub isolation_none : (x : StmtTree) (xs : List Token) → Misses (t.Keyword k.Isolation) xs →
     Reads (isolation x) behind_begin xs (read x xs)
 unfolding isolation
-isolation_none x xs miss = or_none x (t.Keyword k.Isolation) (committed x) behind_begin xs miss
+isolation_none x xs miss = left_out miss
 
 spelled_isolation : (x : StmtTree) → Spelled (isolation x)
 unfolding isolation
@@ -149,73 +98,45 @@ unfolding begin
 spelled_begin = spelled_bind (transaction stmt.Begin) isolation (spelled_transaction stmt.Begin) spelled_isolation
 
 -- a statement of one form
-module _ {X : Type 0} (L : Lang Token X) (form : X → StmtTree) where
-  of_form : X → Lang Token StmtTree
-  of_form x = gives (form x)
-
-  starts_form : (x : X) → Starts behind_statement (of_form x) behind_statement
-  unfolding of_form
-  starts_form x = starts_gives behind_statement behind_statement (form x) (λ o e. e)
-
-  spelled_form : (x : X) → Spelled (of_form x)
-  unfolding of_form
-  spelled_form x = spelled_gives (form x)
-
-  form_read : (v : X) (xs ys : List Token) → Reads L behind_statement xs (read v ys) →
-      Reads (bind L (λ x. gives (form x))) behind_statement xs (read (form v) ys)
-  unfolding of_form
-  form_read v xs ys r =
-      part_read L of_form behind_statement behind_statement xs ys v (read (form v) ys) r starts_form
-      (reads_gives (form v) (form v) behind_statement ys refl)
-
-  form_failed : (xs : List Token) (f : Fault) → Reads L behind_statement xs (failed f) →
-      Reads (bind L (λ x. gives (form x))) behind_statement xs (failed f)
-  unfolding of_form
-  form_failed xs f r = reads_bind_failed L of_form behind_statement behind_statement xs f r starts_form spelled_form
-
-  spelled_of_form : Spelled L → Spelled (bind L (λ x. gives (form x)))
-  unfolding of_form
-  spelled_of_form a = spelled_bind L of_form a spelled_form
-
 pub select_read : (v : Select) (xs ys : List Token) → Reads select behind_statement xs (read v ys) →
     Reads (bind select (λ x. gives (stmt.Select x))) behind_statement xs (read (stmt.Select v) ys)
-select_read v xs ys r = form_read select stmt.Select v xs ys r
+select_read v xs ys r = made_read r
 
 pub select_failed : (xs : List Token) (f : Fault) → Reads select behind_statement xs (failed f) →
     Reads (bind select (λ x. gives (stmt.Select x))) behind_statement xs (failed f)
-select_failed xs f r = form_failed select stmt.Select xs f r
+select_failed xs f r = made_failed r
 
 pub insert_read : (v : Insert) (xs ys : List Token) → Reads insert behind_statement xs (read v ys) →
     Reads (bind insert (λ x. gives (stmt.Insert x))) behind_statement xs (read (stmt.Insert v) ys)
-insert_read v xs ys r = form_read insert stmt.Insert v xs ys r
+insert_read v xs ys r = made_read r
 
 pub insert_failed : (xs : List Token) (f : Fault) → Reads insert behind_statement xs (failed f) →
     Reads (bind insert (λ x. gives (stmt.Insert x))) behind_statement xs (failed f)
-insert_failed xs f r = form_failed insert stmt.Insert xs f r
+insert_failed xs f r = made_failed r
 
 pub update_read : (v : Update) (xs ys : List Token) → Reads update behind_statement xs (read v ys) →
     Reads (bind update (λ x. gives (stmt.Update x))) behind_statement xs (read (stmt.Update v) ys)
-update_read v xs ys r = form_read update stmt.Update v xs ys r
+update_read v xs ys r = made_read r
 
 pub update_failed : (xs : List Token) (f : Fault) → Reads update behind_statement xs (failed f) →
     Reads (bind update (λ x. gives (stmt.Update x))) behind_statement xs (failed f)
-update_failed xs f r = form_failed update stmt.Update xs f r
+update_failed xs f r = made_failed r
 
 pub delete_read : (v : Delete) (xs ys : List Token) → Reads delete behind_statement xs (read v ys) →
     Reads (bind delete (λ x. gives (stmt.Delete x))) behind_statement xs (read (stmt.Delete v) ys)
-delete_read v xs ys r = form_read delete stmt.Delete v xs ys r
+delete_read v xs ys r = made_read r
 
 pub delete_failed : (xs : List Token) (f : Fault) → Reads delete behind_statement xs (failed f) →
     Reads (bind delete (λ x. gives (stmt.Delete x))) behind_statement xs (failed f)
-delete_failed xs f r = form_failed delete stmt.Delete xs f r
+delete_failed xs f r = made_failed r
 
 pub merge_read : (v : Merge) (xs ys : List Token) → Reads merge behind_statement xs (read v ys) →
     Reads (bind merge (λ x. gives (stmt.Merge x))) behind_statement xs (read (stmt.Merge v) ys)
-merge_read v xs ys r = form_read merge stmt.Merge v xs ys r
+merge_read v xs ys r = made_read r
 
 pub merge_failed : (xs : List Token) (f : Fault) → Reads merge behind_statement xs (failed f) →
     Reads (bind merge (λ x. gives (stmt.Merge x))) behind_statement xs (failed f)
-merge_failed xs f r = form_failed merge stmt.Merge xs f r
+merge_failed xs f r = made_failed r
 
 -- CREATE
 pub table_on : (xs ys : List Token) (o : Seen Token StmtTree) → xs ≡ t.Keyword k.Table ∷ ys →
@@ -230,9 +151,7 @@ pub index_on : (xs : List Token) (o : Seen Token StmtTree) → Misses (t.Keyword
     Reads create_index behind_statement xs o →
     Reads (either create_table create_index) behind_statement xs o
 unfolding create_table
-index_on xs o miss r =
-    (leads_right _ create_index behind_statement xs (bars_token behind_statement (t.Keyword k.Table) _ 0 xs
-    (λ n. miss.misses n))).to o r
+index_on xs o miss r = other miss r
 
 -- behind the first word
 behind_all : (o : Option Token) → behind_statement o ≡ true → behind_begin o ≡ true
@@ -296,11 +215,11 @@ unfolding statement_behind
 spelled_statement_behind version lead.Begin = spelled_begin
 spelled_statement_behind version lead.Commit = spelled_transaction stmt.Commit
 spelled_statement_behind version lead.Rollback = spelled_transaction stmt.Rollback
-spelled_statement_behind version lead.Select = spelled_of_form select stmt.Select spelled_select
-spelled_statement_behind version lead.Insert = spelled_of_form insert stmt.Insert spelled_insert
-spelled_statement_behind version lead.Update = spelled_of_form update stmt.Update spelled_update
-spelled_statement_behind version lead.Delete = spelled_of_form delete stmt.Delete spelled_delete
-spelled_statement_behind version lead.Merge = spelled_of_form merge stmt.Merge spelled_merge
+spelled_statement_behind version lead.Select = spelled_made spelled_select
+spelled_statement_behind version lead.Insert = spelled_made spelled_insert
+spelled_statement_behind version lead.Update = spelled_made spelled_update
+spelled_statement_behind version lead.Delete = spelled_made spelled_delete
+spelled_statement_behind version lead.Merge = spelled_made spelled_merge
 spelled_statement_behind version lead.Create = spelled_left create_table create_index spelled_create_table
 
 -- a statement
@@ -308,16 +227,12 @@ pub statement_on : (version : ℕ) (w : Lead) (xs ys : List Token) (o : Seen Tok
     Reads (one lead_of) any xs (read w ys) →
     Reads (statement_behind version w) behind_statement ys o → Reads (statement version) behind_statement xs o
 unfolding statement
-statement_on version w xs ys o r q =
-    part_read (one lead_of) (statement_behind version) any behind_statement xs ys w o r
-    (λ u. starts_any (statement_behind version u) behind_statement) q
+statement_on version w xs ys o r q = part_then r q
 
 pub statement_failed : (version : ℕ) (xs : List Token) (f : Fault) → Reads (one lead_of) any xs (failed f) →
     Reads (statement version) behind_statement xs (failed f)
 unfolding statement
-statement_failed version xs f r =
-    reads_bind_failed (one lead_of) (statement_behind version) any behind_statement xs f r
-    (λ u. starts_any (statement_behind version u) behind_statement) (spelled_statement_behind version)
+statement_failed version xs f r = no_part (spelled_statement_behind version) r
 
 -- one `;` may end it
 closed : StmtTree → Lang Token StmtTree
@@ -382,3 +297,6 @@ whole_read version v xs ys o r e =
 pub whole_failed : (version : ℕ) (xs : List Token) (f : Fault) → Reads (sentence version) ends xs (failed f) →
     ReadsWhole (sentence version) xs (Err f)
 whole_failed version xs f r = reads_whole (sentence version) ends xs (failed f) refl r
+
+-- what a statement answers, by its first word
+pub ruleset leads = (behind_begin_word, behind_commit_word, behind_rollback_word, behind_select_word, behind_insert_word, behind_update_word, behind_delete_word, behind_merge_word, behind_create_word)

@@ -1,32 +1,14 @@
 -- One step of a rule: a word, a part, and what may be left out.
-use Rattle.std.proofs.Common.{◌≡◌, ◌∷◌, ℕ, Bool, true, false, List, length, Option, Some, None, refl, ap, ◌∙◌}
-use Rattle.pg_grammar.specs.declared.fault.Fault.{Fault}
-use Rattle.pg_grammar.specs.declared.fault.Fault.TheVariants.{Syntax}
-use Rattle.pg_grammar.specs.Languages.{Lang, gives, token, bind}
-use Rattle.pg_grammar.specs.Answers.{next, Misses, Seen, read, failed, Reads}
-use Rattle.std.specs.Prelude.{not, ◌&&◌}
-use Rattle.std.proofs.lemmas.Slice.Eq.{bytes_eq-Decides}
-use Rattle.pg_grammar.proofs.Leading.{Leads, leads_on, reads_narrow}
-use Rattle.pg_grammar.proofs.Words.{Starts, Spelled, starts_gives, starts_token, starts_bind, starts_either, spelled_gives, spelled_token, bars_token, bars_bind, bars_gives}
-use Rattle.pg_grammar.proofs.Combining.{reads_gives, reads_refused, leads_token, leads_bind, reads_bind_failed, leads_left, leads_right, leads_token_bind}
-use Rattle.pg_lexer.specs.Keywords.{spelling}
-use Rattle.pg_lexer.specs.declared.keyword.Keyword.{Keyword}
-use Rattle.pg_lexer.specs.declared.token.Token.{Token}
+use Rattle.std.proofs.Common.{◌≡◌, ◌∷◌, Bool, true, false, List, Option, Some, None, refl, ap, ◌∙◌, not, ◌&&◌}
+use Rattle.pg_parse_stmt.proofs.Common.{Fault, Lang, gives, token, bind, next, Misses, Seen, read, failed, Reads, Leads, leads_on, reads_narrow, Starts, Spelled, starts_gives, starts_token, starts_bind, starts_either, spelled_gives, bars_token, bars_bind, bars_gives, reads_gives, leads_token, leads_bind, reads_bind_failed, leads_left, leads_right, leads_token_bind, spelling, Keyword, Token, any, is_word, behind_optional, word, or_else, optional}
 use Rattle.pg_lexer.specs.declared.token.Token.TheVariants as t
-use Rattle.pg_parse_stmt.specs.Behind.{any, is_word, behind_optional}
-use Rattle.pg_parse_stmt.specs.Forms.{word, or_else, optional}
+use Rattle.std.proofs.lemmas.Slice.Eq.{bytes_eq-Decides}
 use Rattle.pg_parse_stmt.proofs.Lists.{starts_any, and_left}
 
 pub word_read : {V : Type 0} (t : Token) (L : Lang Token V) (g : Option Token → Bool) (xs ys : List Token)
     (o : Seen Token V) → xs ≡ t ∷ ys →
     Reads L g ys o → Reads (token t L) g xs o
 word_read t L g xs ys o e r = (leads_token t L g xs ys e).to o r
-
-pub word_missed : {V : Type 0} (t : Token) (L : Lang Token V) (g : Option Token → Bool) (xs : List Token) (n : ℕ) →
-    Misses t xs → n ≡ length xs →
-    Spelled L → Reads (token t L) g xs (failed (Syntax n))
-word_missed t L g xs n miss h a =
-    reads_refused (token t L) g xs n (bars_token g t L 0 xs (λ x. miss.misses x)) (spelled_token t L a) h
 
 pub part_read : {X V : Type 0} (L : Lang Token X) (M : X → Lang Token V) (b g : Option Token → Bool)
     (xs ys : List Token) (x : X) (o : Seen Token V) →

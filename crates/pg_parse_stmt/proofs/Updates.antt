@@ -1,16 +1,9 @@
 -- [FROM from] of UPDATE and [USING from] of DELETE
 use Rattle.std.proofs.Common.{◌≡◌, ◌∷◌, List, [], refl, sym, subst}
-use Rattle.pg_grammar.specs.Answers.{Misses, Seen, read, Reads}
+use Rattle.pg_parse_stmt.proofs.Common.{Misses, Seen, read, Reads, Token, behind_from, word, or_else, from, Source, Joined, rank, behind}
 use Rattle.pg_lexer.specs.declared.keyword.Keyword.TheVariants as k
-use Rattle.pg_lexer.specs.declared.token.Token.{Token}
 use Rattle.pg_lexer.specs.declared.token.Token.TheVariants as t
-use Rattle.pg_parse_stmt.specs.Behind.{behind_from}
-use Rattle.pg_parse_stmt.specs.Forms.{word, or_else}
-use Rattle.pg_parse_stmt.specs.Grammar.{from}
-use Rattle.pg_parse_stmt.specs.declared.tree.Source.{Source}
-use Rattle.pg_parse_stmt.specs.declared.tree.Joined.{Joined}
 use Rattle.pg_parse_stmt.proofs.Steps.{or_none, or_narrow}
-use Rattle.pg_parse_stmt.specs.Ranks.{rank, behind}
 use Rattle.pg_parse_stmt.proofs.Agreements.{deeper}
 use Rattle.pg_parse_stmt.proofs.Follows.{from_follows}
 

@@ -1,16 +1,12 @@
 -- From the reading of tokens to places in the line.
 use Rattle.std.proofs.Common.{◌≡◌, ℕ, List, map, Ok, Err, ap, ◌∙◌, subst}
-use Rattle.pg_grammar.specs.declared.fault.Fault.{Fault}
-use Rattle.pg_grammar.specs.Answers.{ReadsWhole}
+use Rattle.pg_parse_stmt.proofs.Common.{Fault, ReadsWhole, Token, sentence, StmtTree}
 use Rattle.pg_lexer.specs.declared.token.Span.{Span}
 use Rattle.pg_lexer.specs.declared.token.Spanned.{Spanned}
-use Rattle.pg_lexer.specs.declared.token.Token.{Token}
 use Rattle.pg_lexer.specs.Spans.{span_of}
 use Rattle.pg_parse_expr.specs.declared.whole.ParseFault.{ParseFault}
 use Rattle.pg_parse_expr.specs.Places.{placed, plain}
-use Rattle.pg_parse_stmt.specs.Grammar.{sentence}
 use Rattle.pg_parse_stmt.specs.Places.{IsParsed}
-use Rattle.pg_parse_stmt.specs.declared.tree.StmtTree.{StmtTree}
 
 pub parsed_ok : (version end : ℕ) (tokens : List Spanned) (all : List Token) (tree : StmtTree) → all ≡ plain tokens →
     ReadsWhole (sentence version) all (Ok tree) → IsParsed version tokens end (Ok tree)

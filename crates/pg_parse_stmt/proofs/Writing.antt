@@ -1,18 +1,8 @@
 -- What can be written before any tokens: one lemma a combinator and a form.
-use Rattle.std.proofs.Common.{◌≡◌, ◌≤◌, ℕ, zero, suc, Bool, true, List, [], ◌∷◌, ◌++◌, Option, Some, None, refl, sym, subst}
-use Rattle.std.proofs.Common.{inl, inr, append_assoc, append-nil}
-use Rattle.std.specs.List.{list_all}
-use Rattle.std.proofs.lemmas.Bool.{and_from, and_parts}
-use Rattle.pg_grammar.specs.Limits.{Limit, most}
-use Rattle.pg_grammar.specs.Languages.{Lang, gives, token, one, bind, either, more, reaches}
-use Rattle.pg_lexer.specs.declared.keyword.Keyword.{Keyword}
-use Rattle.pg_lexer.specs.declared.sign.Sign.{Sign}
+use Rattle.std.proofs.Common.{◌≡◌, ◌≤◌, ℕ, zero, suc, Bool, true, List, [], ◌∷◌, ◌++◌, Option, Some, None, refl, sym, subst, inl, inr, append_assoc, append-nil}
+use Rattle.pg_parse_stmt.proofs.Common.{list_all, and_from, and_parts, Limit, most, Lang, gives, token, one, bind, either, more, reaches, Keyword, Sign, Token, is_token, word, sign, or_else, optional, next_of, list_of, in_brackets, none_or, some_and_all}
 use Rattle.pg_lexer.specs.declared.sign.Sign.TheVariants as s
-use Rattle.pg_lexer.specs.declared.token.Token.{Token}
 use Rattle.pg_lexer.specs.declared.token.Token.TheVariants as token_of
-use Rattle.pg_parse_expr.specs.Laws.{is_token}
-use Rattle.pg_parse_stmt.specs.Forms.{word, sign, or_else, optional, next_of, list_of, in_brackets}
-use Rattle.pg_parse_stmt.specs.Laws.{none_or, some_and_all}
 
 -- v has a word of L before any tokens that a line may have, of such tokens too, and within the limits
 pub record Writes {V : Type 0} (L : Lang Token V) (v : V) : Type 0 where

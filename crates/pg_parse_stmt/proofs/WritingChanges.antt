@@ -1,48 +1,17 @@
 -- INSERT, UPDATE, DELETE and MERGE, written before any tokens.
-use Rattle.std.proofs.Common.{◌≡◌, Bool, true, ◌&&◌, List, [], ◌∷◌, ◌++◌, Option, Some, None, refl, arith}
-use Rattle.std.specs.List.{list_all}
-use Rattle.std.proofs.lemmas.Bool.{and_parts, leb-true}
-use Rattle.pg_grammar.specs.Languages.{Lang, one}
+use Rattle.std.proofs.Common.{◌≡◌, Bool, true, ◌&&◌, List, [], ◌∷◌, ◌++◌, Option, Some, None, refl, arith, leb-true}
+use Rattle.pg_parse_stmt.proofs.Common.{list_all, and_parts, Lang, one, Token, expr, is_free_name, Tree, word, optional, or_else, change_of, none_or, some_and_all, is_expr, is_element, are_sources, sources_or_none, are_proposed_rows, is_target, is_conflict, is_insert, is_update, is_delete, is_change, is_addition, is_when, is_merge, name, table_ref, condition, as_name, returning, tuple, tuples, sets, elements, subselect, source, sources_of, from, rows, target_elements, target_constraint, conflict_target, upsert, conflict_act, conflict, columns, insert, update, delete, change_behind, change, addition_insert, addition_nothing, addition, then, by_whom, not_matched, when_behind, when, next_when, whens, merge, Source, Joined, Rows, ConflictTarget, Conflict, Insert, Update, Delete, Change, Addition, When, Merge}
 use Rattle.pg_lexer.specs.declared.keyword.Keyword.TheVariants as k
-use Rattle.pg_lexer.specs.declared.token.Token.{Token}
 use Rattle.pg_lexer.specs.declared.token.Token.TheVariants as token_of
-use Rattle.pg_parse_expr.specs.Grammar.{expr}
-use Rattle.pg_parse_expr.specs.Laws.{is_free_name}
-use Rattle.pg_parse_expr.specs.Tree.{Tree}
-use Rattle.pg_parse_stmt.specs.Forms.{word, optional, or_else}
-use Rattle.pg_parse_stmt.specs.Words.{change_of}
-use Rattle.pg_parse_stmt.specs.Laws.{none_or, some_and_all, is_expr, is_element, are_sources, sources_or_none, are_proposed_rows}
-use Rattle.pg_parse_stmt.specs.Laws.{is_target, is_conflict}
-use Rattle.pg_parse_stmt.specs.Laws.{is_insert, is_update, is_delete, is_change, is_addition, is_when, is_merge}
-use Rattle.pg_parse_stmt.specs.Grammar.{name, table_ref, condition, as_name, returning, tuple, tuples, sets, elements}
-use Rattle.pg_parse_stmt.specs.Grammar.{subselect, source, sources_of, from}
-use Rattle.pg_parse_stmt.specs.Grammar.{rows, target_elements, target_constraint, conflict_target, upsert, conflict_act}
-use Rattle.pg_parse_stmt.specs.Grammar.{conflict, columns, insert, update, delete}
-use Rattle.pg_parse_stmt.specs.Grammar.{change_behind, change, addition_insert, addition_nothing, addition, then, by_whom}
-use Rattle.pg_parse_stmt.specs.Grammar.{not_matched, when_behind, when, next_when, whens, merge}
-use Rattle.pg_parse_stmt.specs.declared.tree.Source.{Source}
-use Rattle.pg_parse_stmt.specs.declared.tree.Joined.{Joined}
-use Rattle.pg_parse_stmt.specs.declared.tree.Rows.{Rows}
 use Rattle.pg_parse_stmt.specs.declared.tree.Rows.TheVariants as rows_of
-use Rattle.pg_parse_stmt.specs.declared.tree.ConflictTarget.{ConflictTarget}
 use Rattle.pg_parse_stmt.specs.declared.tree.ConflictTarget.TheVariants as target_of
-use Rattle.pg_parse_stmt.specs.declared.tree.Conflict.{Conflict}
 use Rattle.pg_parse_stmt.specs.declared.tree.Conflict.TheVariants as conflict_of
-use Rattle.pg_parse_stmt.specs.declared.tree.Insert.{Insert}
-use Rattle.pg_parse_stmt.specs.declared.tree.Update.{Update}
-use Rattle.pg_parse_stmt.specs.declared.tree.Delete.{Delete}
-use Rattle.pg_parse_stmt.specs.declared.tree.Change.{Change}
 use Rattle.pg_parse_stmt.specs.declared.tree.Change.TheVariants as change_tree
-use Rattle.pg_parse_stmt.specs.declared.tree.Addition.{Addition}
 use Rattle.pg_parse_stmt.specs.declared.tree.Addition.TheVariants as addition_of
-use Rattle.pg_parse_stmt.specs.declared.tree.When.{When}
 use Rattle.pg_parse_stmt.specs.declared.tree.When.TheVariants as when_of
-use Rattle.pg_parse_stmt.specs.declared.tree.Merge.{Merge}
 use Rattle.pg_parse_stmt.specs.declared.word.ChangeWord.TheVariants as change_word
-use Rattle.pg_parse_stmt.proofs.Writing.{Writes, writes_gives, writes_word, writes_one, writes_bind, writes_left, writes_right}
-use Rattle.pg_parse_stmt.proofs.Writing.{writes_some, writes_none, writes_else, writes_optional, writes_steps}
-use Rattle.pg_parse_stmt.proofs.WritingParts.{writes_name, writes_columns, writes_as_name, writes_table_ref, writes_expr, writes_condition}
-use Rattle.pg_parse_stmt.proofs.WritingParts.{writes_returning, writes_tuple, writes_tuples, writes_sets, writes_elements}
+use Rattle.pg_parse_stmt.proofs.Writing.{Writes, writes_gives, writes_word, writes_one, writes_bind, writes_left, writes_right, writes_some, writes_none, writes_else, writes_optional, writes_steps}
+use Rattle.pg_parse_stmt.proofs.WritingParts.{writes_name, writes_columns, writes_as_name, writes_table_ref, writes_expr, writes_condition, writes_returning, writes_tuple, writes_tuples, writes_sets, writes_elements}
 use Rattle.pg_parse_stmt.proofs.WritingFroms.{three_parts, writes_subselect, subselect_bound, writes_source, writes_from}
 use Rattle.pg_parse_stmt.proofs.WritingSelects.{four_parts, six_parts}
 

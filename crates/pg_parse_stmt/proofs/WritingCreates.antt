@@ -1,46 +1,22 @@
 -- CREATE TABLE and CREATE UNIQUE INDEX, written before any tokens.
-use Rattle.std.proofs.Common.{◌≡◌, ℕ, suc, pos, negsuc, true, false, ◌||◌, List, [], ◌∷◌, ◌++◌, Option, Some, None}
-use Rattle.std.proofs.Common.{refl, inl, inr, arith}
-use Rattle.std.specs.Prelude.{nat_le}
-use Rattle.std.specs.List.{list_all}
-use Rattle.std.proofs.lemmas.Bool.{and_parts, or_cases, leb-true, le-leb, lt-leb}
-use Rattle.pg_grammar.specs.Languages.{one, bind, more}
-use Rattle.pg_values.specs.declared.value.Kind.{Kind}
+use Rattle.std.proofs.Common.{◌≡◌, ℕ, suc, pos, negsuc, true, false, ◌||◌, List, [], ◌∷◌, ◌++◌, Option, Some, None, refl, inl, inr, arith, nat_le, leb-true, le-leb}
+use Rattle.pg_parse_stmt.proofs.Common.{list_all, and_parts, or_cases, lt-leb, one, bind, more, Value, Token, expr, is_literal, is_free_name, is_token, integer_read, bigint_read, word, optional, list_of, in_brackets, value_of, kind_of, negative_of, constraint_of, rule_of, none_or, some_and_all, is_negative, is_column_constraint, is_column_rule, is_table_constraint, is_part, is_create_table, is_create_index, name, names, condition, elements, default, column_constraint_behind, column_constraint_named, column_rule_behind, next_rule, column_part, table_constraint_behind, constraint_part, part, create_table, create_index, ColumnConstraint, ColumnRule, TableConstraint, TablePart, ConstraintWord, RuleWord}
 use Rattle.pg_values.specs.declared.value.Kind.TheVariants as kind
-use Rattle.pg_values.specs.declared.value.Value.{Value}
 use Rattle.pg_values.specs.declared.value.Value.TheVariants as value
 use Rattle.pg_lexer.specs.declared.keyword.Keyword.TheVariants as k
 use Rattle.pg_lexer.specs.declared.sign.Sign.TheVariants as s
-use Rattle.pg_lexer.specs.declared.token.Token.{Token}
 use Rattle.pg_lexer.specs.declared.token.Token.TheVariants as token_of
-use Rattle.pg_parse_expr.specs.Grammar.{expr}
-use Rattle.pg_parse_expr.specs.Laws.{is_literal, is_free_name, is_token}
-use Rattle.pg_parse_expr.proofs.Spelled.{integer_read, bigint_read}
-use Rattle.pg_parse_stmt.specs.Forms.{word, optional, list_of, in_brackets}
-use Rattle.pg_parse_expr.specs.Operators.{value_of}
-use Rattle.pg_parse_stmt.specs.Words.{kind_of, negative_of, constraint_of, rule_of}
-use Rattle.pg_parse_stmt.specs.Laws.{none_or, some_and_all, is_negative, is_column_constraint, is_column_rule}
-use Rattle.pg_parse_stmt.specs.Laws.{is_table_constraint, is_part, is_create_table, is_create_index}
-use Rattle.pg_parse_stmt.specs.Grammar.{name, names, condition, elements, default, column_constraint_behind}
-use Rattle.pg_parse_stmt.specs.Grammar.{column_constraint_named, column_rule_behind, next_rule}
-use Rattle.pg_parse_stmt.specs.Grammar.{column_part, table_constraint_behind, constraint_part, part, create_table, create_index}
-use Rattle.pg_parse_stmt.specs.declared.tree.ColumnConstraint.{ColumnConstraint}
 use Rattle.pg_parse_stmt.specs.declared.tree.ColumnConstraint.TheVariants as column_constraint
-use Rattle.pg_parse_stmt.specs.declared.tree.ColumnRule.{ColumnRule}
 use Rattle.pg_parse_stmt.specs.declared.tree.ColumnRule.TheVariants as column_rule
-use Rattle.pg_parse_stmt.specs.declared.tree.TableConstraint.{TableConstraint}
 use Rattle.pg_parse_stmt.specs.declared.tree.TableConstraint.TheVariants as table_constraint
-use Rattle.pg_parse_stmt.specs.declared.tree.TablePart.{TablePart}
 use Rattle.pg_parse_stmt.specs.declared.tree.TablePart.TheVariants as part_of
+use Rattle.pg_parse_stmt.specs.declared.tree.StmtTree.TheVariants as stmt
+use Rattle.pg_parse_stmt.specs.declared.word.ConstraintWord.TheVariants as constraint_word
+use Rattle.pg_parse_stmt.specs.declared.word.RuleWord.TheVariants as rule_word
+use Rattle.pg_values.specs.declared.value.Kind.{Kind}
 use Rattle.pg_parse_stmt.specs.declared.tree.CreateTable.{CreateTable}
 use Rattle.pg_parse_stmt.specs.declared.tree.CreateIndex.{CreateIndex}
-use Rattle.pg_parse_stmt.specs.declared.tree.StmtTree.TheVariants as stmt
-use Rattle.pg_parse_stmt.specs.declared.word.ConstraintWord.{ConstraintWord}
-use Rattle.pg_parse_stmt.specs.declared.word.ConstraintWord.TheVariants as constraint_word
-use Rattle.pg_parse_stmt.specs.declared.word.RuleWord.{RuleWord}
-use Rattle.pg_parse_stmt.specs.declared.word.RuleWord.TheVariants as rule_word
-use Rattle.pg_parse_stmt.proofs.Writing.{Writes, writes_gives, writes_word, writes_sign, writes_one, writes_bind, writes_left, writes_right}
-use Rattle.pg_parse_stmt.proofs.Writing.{writes_optional, writes_in_brackets, writes_list, writes_steps}
+use Rattle.pg_parse_stmt.proofs.Writing.{Writes, writes_gives, writes_word, writes_sign, writes_one, writes_bind, writes_left, writes_right, writes_optional, writes_in_brackets, writes_list, writes_steps}
 use Rattle.pg_parse_stmt.proofs.WritingParts.{writes_name, writes_names, writes_expr, writes_condition, writes_elements}
 use Rattle.pg_parse_stmt.proofs.WritingSelects.{four_parts}
 

@@ -1,38 +1,16 @@
 -- FROM and USING lists within the limit, written before any tokens.
-use Rattle.std.proofs.Common.{◌≡◌, ◌≤◌, ◌+◌, ℕ, suc, Bool, true, ◌&&◌, List, [], ◌∷◌, ◌++◌, length, Option, Some}
-use Rattle.std.proofs.Common.{None, refl, sym, subst, append_assoc, append-nil, arith}
-use Rattle.std.specs.Prelude.{nat_le, is_none}
-use Rattle.std.specs.List.{list_all}
-use Rattle.std.proofs.lemmas.Bool.{and_parts, leb-true}
-use Rattle.pg_grammar.specs.Limits.{sources}
-use Rattle.pg_grammar.specs.Languages.{one, more}
+use Rattle.std.proofs.Common.{◌≡◌, ◌≤◌, ◌+◌, ℕ, suc, Bool, true, ◌&&◌, List, [], ◌∷◌, ◌++◌, length, Option, Some, None, refl, sym, subst, append_assoc, append-nil, arith, nat_le, is_none, leb-true}
+use Rattle.pg_parse_stmt.proofs.Common.{list_all, and_parts, sources, one, more, expr, is_free_name, Tree, in_brackets, link_of, none_or, some_and_all, is_expr, are_names, is_item, is_table, are_joined, is_subselect, are_rows, is_source, are_sources, SourceRule, sources_in, joined, alone, linked, next_source, from_of, table_ref, table_source, one_source, names, alias, items, condition, tuples, subselect, values_source, query_source, bracketed, source, sources_of, from, TableRef, Source, Joined, Subselect}
 use Rattle.pg_lexer.specs.declared.keyword.Keyword.TheVariants as k
 use Rattle.pg_lexer.specs.declared.sign.Sign.TheVariants as s
 use Rattle.pg_lexer.specs.declared.token.Token.TheVariants as token_of
-use Rattle.pg_parse_expr.specs.Grammar.{expr}
-use Rattle.pg_parse_expr.specs.Laws.{is_free_name}
-use Rattle.pg_parse_expr.specs.Tree.{Tree}
-use Rattle.pg_parse_stmt.specs.Forms.{in_brackets}
-use Rattle.pg_parse_stmt.specs.Words.{link_of}
-use Rattle.pg_parse_stmt.specs.Laws.{none_or, some_and_all, is_expr, are_names, is_item, is_table, are_joined, is_subselect}
-use Rattle.pg_parse_stmt.specs.Laws.{are_rows, is_source, are_sources}
-use Rattle.pg_parse_stmt.specs.Grammar.{SourceRule, sources_in, joined, alone, linked, next_source, from_of, table_ref}
-use Rattle.pg_parse_stmt.specs.Grammar.{table_source, one_source}
-use Rattle.pg_parse_stmt.specs.Grammar.{names, alias, items, condition, tuples, subselect, values_source, query_source}
-use Rattle.pg_parse_stmt.specs.Grammar.{bracketed, source, sources_of, from}
-use Rattle.pg_parse_stmt.specs.declared.tree.TableRef.{TableRef}
-use Rattle.pg_parse_stmt.specs.declared.tree.Source.{Source}
 use Rattle.pg_parse_stmt.specs.declared.tree.Source.TheVariants as source_of
+use Rattle.pg_parse_stmt.specs.declared.word.Link.TheVariants as link
 use Rattle.pg_parse_stmt.specs.declared.tree.ValuesSource.{ValuesSource}
 use Rattle.pg_parse_stmt.specs.declared.tree.QuerySource.{QuerySource}
-use Rattle.pg_parse_stmt.specs.declared.tree.Joined.{Joined}
-use Rattle.pg_parse_stmt.specs.declared.tree.Subselect.{Subselect}
-use Rattle.pg_parse_stmt.specs.declared.word.Link.TheVariants as link
 use Rattle.pg_parse_stmt.proofs.Froms.{sources_more, tables_counted}
-use Rattle.pg_parse_stmt.proofs.Writing.{Writes, writes_gives, writes_word, writes_sign, writes_one, writes_bind, writes_left, writes_right}
-use Rattle.pg_parse_stmt.proofs.Writing.{writes_reaches, writes_no_more, writes_more, writes_in_brackets}
-use Rattle.pg_parse_stmt.proofs.WritingParts.{writes_names, writes_alias, writes_table_ref, writes_expr, writes_condition}
-use Rattle.pg_parse_stmt.proofs.WritingParts.{writes_items, writes_tuples}
+use Rattle.pg_parse_stmt.proofs.Writing.{Writes, writes_gives, writes_word, writes_sign, writes_one, writes_bind, writes_left, writes_right, writes_reaches, writes_no_more, writes_more, writes_in_brackets}
+use Rattle.pg_parse_stmt.proofs.WritingParts.{writes_names, writes_alias, writes_table_ref, writes_expr, writes_condition, writes_items, writes_tuples}
 
 -- three tests that all hold
 pub three_parts : (a b c : Bool) → (a && b && c) ≡ true → (a ≡ true) × (b ≡ true) × (c ≡ true)

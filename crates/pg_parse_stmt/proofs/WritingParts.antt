@@ -1,29 +1,11 @@
 -- What stands in many statements, written before any tokens: names, expressions, items, rows.
-use Rattle.std.proofs.Common.{◌≡◌, ℕ, true, List, Option}
-use Rattle.std.specs.Prelude.{nat_le}
-use Rattle.std.specs.List.{list_all}
-use Rattle.std.proofs.lemmas.Bool.{and_parts, leb-true}
+use Rattle.std.proofs.Common.{◌≡◌, ℕ, true, List, Option, nat_le, leb-true}
+use Rattle.pg_parse_stmt.proofs.Common.{list_all, and_parts, expr, is_free_name, is_written, name_of, Tree, height, name_token, name_read, name_is_token, expr_spelled, word, optional, list_of, in_brackets, none_or, some_and_all, is_expr, are_names, is_item, is_table, are_rows, is_element, is_assignment, are_sets, name, names, alias, table_named, table_ref, condition, as_name, named_expr, all_of, item, items, returning, tuple, tuples, assignment, sets, element, elements, columns, Item, TableRef, Element, Assignment}
 use Rattle.pg_lexer.specs.declared.keyword.Keyword.TheVariants as k
 use Rattle.pg_lexer.specs.declared.sign.Sign.TheVariants as s
-use Rattle.pg_parse_expr.specs.Grammar.{expr}
-use Rattle.pg_parse_expr.specs.Laws.{is_free_name, is_written}
-use Rattle.pg_parse_expr.specs.Operators.{name_of}
-use Rattle.pg_parse_expr.specs.Tree.{Tree, height}
-use Rattle.pg_parse_expr.proofs.Spelled.{name_token, name_read, name_is_token, expr_spelled}
-use Rattle.pg_parse_stmt.specs.Forms.{word, optional, list_of, in_brackets}
-use Rattle.pg_parse_stmt.specs.Laws.{none_or, some_and_all, is_expr, are_names, is_item, is_table, are_rows, is_element}
-use Rattle.pg_parse_stmt.specs.Laws.{is_assignment, are_sets}
-use Rattle.pg_parse_stmt.specs.Grammar.{name, names, alias, table_named, table_ref, condition, as_name, named_expr, all_of}
-use Rattle.pg_parse_stmt.specs.Grammar.{item, items, returning}
-use Rattle.pg_parse_stmt.specs.Grammar.{tuple, tuples, assignment, sets, element, elements, columns}
-use Rattle.pg_parse_stmt.specs.declared.tree.Item.{Item}
 use Rattle.pg_parse_stmt.specs.declared.tree.Item.TheVariants as item_of
-use Rattle.pg_parse_stmt.specs.declared.tree.TableRef.{TableRef}
-use Rattle.pg_parse_stmt.specs.declared.tree.Element.{Element}
 use Rattle.pg_parse_stmt.specs.declared.tree.Element.TheVariants as element_of
-use Rattle.pg_parse_stmt.specs.declared.tree.Assignment.{Assignment}
-use Rattle.pg_parse_stmt.proofs.Writing.{Writes, writes_gives, writes_word, writes_sign, writes_one, writes_bind, writes_left, writes_right}
-use Rattle.pg_parse_stmt.proofs.Writing.{writes_optional, writes_in_brackets, writes_list, writes_any}
+use Rattle.pg_parse_stmt.proofs.Writing.{Writes, writes_gives, writes_word, writes_sign, writes_one, writes_bind, writes_left, writes_right, writes_optional, writes_in_brackets, writes_list, writes_any}
 
 -- names
 pub writes_name : (n : List ℕ) → is_free_name n ≡ true → Writes name n

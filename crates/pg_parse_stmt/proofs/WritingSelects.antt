@@ -1,30 +1,12 @@
 -- SELECT, written before any tokens.
 use Rattle.std.proofs.Common.{◌≡◌, ℕ, Bool, true, ◌&&◌, List, Option, refl}
-use Rattle.std.specs.List.{list_all}
-use Rattle.std.proofs.lemmas.Bool.{and_parts}
-use Rattle.pg_grammar.specs.Languages.{one}
+use Rattle.pg_parse_stmt.proofs.Common.{list_all, and_parts, one, expr, is_free_name, word, list_of, integer_of, direction_of, nulls_of, strength_of, none_or, is_order_key, is_limit, is_locking, is_select, name, items, condition, from, direction, nulls_by, nulls, order_key, order, limit, strength_behind, strength, lock_wait, of_table, locked, locking, select, Direction, Ascending, Descending, NullsPlace, OrderKey, LockStrength, LockWait, Locking, Select}
 use Rattle.pg_lexer.specs.declared.keyword.Keyword.TheVariants as k
 use Rattle.pg_lexer.specs.declared.token.Token.TheVariants as token_of
-use Rattle.pg_parse_expr.specs.Grammar.{expr}
-use Rattle.pg_parse_expr.specs.Laws.{is_free_name}
-use Rattle.pg_parse_stmt.specs.Forms.{word, list_of}
-use Rattle.pg_parse_stmt.specs.Words.{integer_of, direction_of, nulls_of, strength_of}
-use Rattle.pg_parse_stmt.specs.Laws.{none_or, is_order_key, is_limit, is_locking, is_select}
-use Rattle.pg_parse_stmt.specs.Grammar.{name, items, condition, from, direction, nulls_by, nulls, order_key, order, limit}
-use Rattle.pg_parse_stmt.specs.Grammar.{strength_behind, strength, lock_wait, of_table, locked, locking, select}
-use Rattle.pg_parse_stmt.specs.declared.tree.Direction.{Direction}
-use Rattle.pg_parse_stmt.specs.declared.tree.Direction.TheVariants.{Ascending, Descending}
-use Rattle.pg_parse_stmt.specs.declared.tree.NullsPlace.{NullsPlace}
-use Rattle.pg_parse_stmt.specs.declared.tree.NullsPlace.TheVariants.{First, Last}
-use Rattle.pg_parse_stmt.specs.declared.tree.OrderKey.{OrderKey}
-use Rattle.pg_parse_stmt.specs.declared.tree.LockStrength.{LockStrength}
 use Rattle.pg_parse_stmt.specs.declared.tree.LockStrength.TheVariants as lock
-use Rattle.pg_parse_stmt.specs.declared.tree.LockWait.{LockWait}
 use Rattle.pg_parse_stmt.specs.declared.tree.LockWait.TheVariants as wait_of
-use Rattle.pg_parse_stmt.specs.declared.tree.Locking.{Locking}
-use Rattle.pg_parse_stmt.specs.declared.tree.Select.{Select}
-use Rattle.pg_parse_stmt.proofs.Writing.{Writes, writes_gives, writes_word, writes_one, writes_bind, writes_left, writes_right}
-use Rattle.pg_parse_stmt.proofs.Writing.{writes_none, writes_else, writes_optional, writes_list, writes_any}
+use Rattle.pg_parse_stmt.specs.declared.tree.NullsPlace.TheVariants.{First, Last}
+use Rattle.pg_parse_stmt.proofs.Writing.{Writes, writes_gives, writes_word, writes_one, writes_bind, writes_left, writes_right, writes_none, writes_else, writes_optional, writes_list, writes_any}
 use Rattle.pg_parse_stmt.proofs.WritingParts.{writes_name, writes_expr, writes_condition, writes_items}
 use Rattle.pg_parse_stmt.proofs.WritingFroms.{three_parts, writes_from}
 

@@ -1,18 +1,9 @@
 -- Each statement within the limits has a spelling.
 use Rattle.std.proofs.Common.{◌≡◌, ℕ, true, List, [], Some, refl}
-use Rattle.std.specs.List.{list_all}
-use Rattle.pg_grammar.specs.Languages.{one}
+use Rattle.pg_parse_stmt.proofs.Common.{list_all, one, Token, is_token, lead_of, is_statement, select, insert, update, delete, merge, transaction, isolation, begin, statement_behind, statement, sentence, StmtTree, Lead}
 use Rattle.pg_lexer.specs.declared.keyword.Keyword.TheVariants as k
-use Rattle.pg_lexer.specs.declared.token.Token.{Token}
 use Rattle.pg_lexer.specs.declared.token.Token.TheVariants as token_of
-use Rattle.pg_parse_expr.specs.Laws.{is_token}
-use Rattle.pg_parse_stmt.specs.Words.{lead_of}
-use Rattle.pg_parse_stmt.specs.Laws.{is_statement}
-use Rattle.pg_parse_stmt.specs.Grammar.{select, insert, update, delete, merge, transaction, isolation, begin}
-use Rattle.pg_parse_stmt.specs.Grammar.{statement_behind, statement, sentence}
-use Rattle.pg_parse_stmt.specs.declared.tree.StmtTree.{StmtTree}
 use Rattle.pg_parse_stmt.specs.declared.tree.StmtTree.TheVariants as stmt
-use Rattle.pg_parse_stmt.specs.declared.word.Lead.{Lead}
 use Rattle.pg_parse_stmt.specs.declared.word.Lead.TheVariants as lead
 use Rattle.pg_parse_stmt.proofs.Writing.{Writes, writes_gives, writes_one, writes_bind, writes_left, writes_right, writes_none}
 use Rattle.pg_parse_stmt.proofs.WritingSelects.{writes_select}

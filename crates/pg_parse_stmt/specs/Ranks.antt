@@ -6,9 +6,8 @@ use Rattle.pg_lexer.specs.declared.sign.Sign.TheVariants as s
 use Rattle.pg_lexer.specs.declared.token.Token.{Token}
 use Rattle.pg_lexer.specs.declared.token.Token.TheVariants as t
 
--- 0 for what goes on with a name, 1 to 8 for the levels of operators,
--- then what goes on with a part of a statement, and 19 for all else. The first word of what may be left out is of a
--- lower rank than all that may stand behind it
+-- 0 for what goes on with a name, 1 to 8 for the levels of operators, then what goes on with a part of a statement, and
+-- 19 for all else. The first word of what may be left out is of a lower rank than all that may stand behind it
 unfoldable pub rank : Option Token → ℕ
 rank (Some (t.Sign s.Dot)) = 0
 rank (Some (t.Sign s.Open)) = 0

@@ -81,7 +81,7 @@ fn default<'a>(alloc: Global, tokens: &'a [Token]) -> Read<'a, Value>
 }
 
 /// `PRIMARY KEY | UNIQUE | CHECK "(" expr ")"`, behind its first word.
-#[tactic(auto, using(crate::proofs::Constraints::column_primary_read, crate::proofs::Constraints::column_primary_no_key, crate::proofs::Constraints::column_unique_read, crate::proofs::Constraints::column_check_read, crate::proofs::Constraints::column_check_failed))]
+#[tactic(auto, using(crate::proofs::Constraints::column_constraints))]
 fn column_constraint<'a>(
     alloc: Global,
     tokens: &'a [Token],
@@ -140,7 +140,7 @@ fn constraint_behind_name<'a>(alloc: Global, tokens: &'a [Token]) -> Read<'a, Co
 }
 
 /// What may stand behind a column's kind, behind its first word.
-#[tactic(auto, using(crate::proofs::Constraints::rule_not_null, crate::proofs::Constraints::rule_no_null, crate::proofs::Constraints::rule_default_read, crate::proofs::Constraints::rule_default_failed, crate::proofs::Constraints::rule_unnamed))]
+#[tactic(auto, using(crate::proofs::Constraints::column_rules))]
 fn column_rule<'a>(alloc: Global, tokens: &'a [Token], word: RuleWord) -> Read<'a, ColumnRule>
     ensures { Reads (column_rule_behind word) any tokens.now (seen result) }
 {
@@ -201,7 +201,7 @@ fn column_part<'a>(alloc: Global, tokens: &'a [Token]) -> Read<'a, TablePart>
 }
 
 /// `(PRIMARY KEY | UNIQUE) "(" names ")" | CHECK "(" expr ")"`, behind its first word.
-#[tactic(auto, using(crate::proofs::Constraints::table_primary_no_key, crate::proofs::Constraints::table_primary_failed, crate::proofs::Constraints::table_primary_read, crate::proofs::Constraints::table_unique_read, crate::proofs::Constraints::table_unique_failed, crate::proofs::Constraints::table_check_read, crate::proofs::Constraints::table_check_failed), unfolding(crate::specs::Grammar::names))]
+#[tactic(auto, using(crate::proofs::Constraints::table_constraints), unfolding(crate::specs::Grammar::names))]
 fn table_constraint<'a>(
     alloc: Global,
     tokens: &'a [Token],

@@ -160,7 +160,7 @@ fn target_constraint<'a>(alloc: Global, tokens: &'a [Token]) -> Read<'a, Conflic
 }
 
 /// `["(" element {"," element} ")" [WHERE expr] | ON CONSTRAINT name]`
-#[tactic(auto, using(crate::proofs::Inserts::target_elements_read, crate::proofs::Inserts::target_elements_failed, crate::proofs::Inserts::target_constraint_read, crate::proofs::Inserts::target_constraint_failed, crate::proofs::Inserts::target_none))]
+#[tactic(auto, using(crate::proofs::Inserts::targets))]
 fn conflict_target<'a>(alloc: Global, tokens: &'a [Token]) -> Read<'a, Option<ConflictTarget>>
     ensures { Reads (optional conflict_target) behind_target tokens.now (seen result) }
 {

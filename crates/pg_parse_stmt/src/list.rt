@@ -42,7 +42,7 @@ pub(crate) trait Listed: Drop + Sized {
 }
 
 /// One or more, with commas between them.
-#[tactic(auto, using(crate::proofs::Lists::list_begun, crate::proofs::Lists::list_not_begun, crate::proofs::Lists::list_goes_on, crate::proofs::Lists::list_breaks_off, crate::proofs::Lists::list_ends, crate::proofs::Lists::reads_no_more))]
+#[tactic(auto, using(crate::proofs::Lists::lists))]
 pub(crate) fn list<'a, T: Listed>(alloc: Global, tokens: &'a [Token]) -> Read<'a, Items<T>>
     ensures { Reads (list_of T.rule) (behind_list T.follows) tokens.now (seen result) }
 {
@@ -66,7 +66,7 @@ pub(crate) fn list<'a, T: Listed>(alloc: Global, tokens: &'a [Token]) -> Read<'a
 }
 
 /// A list in brackets.
-#[tactic(auto, using(crate::proofs::Lists::brackets_read, crate::proofs::Lists::brackets_not_open, crate::proofs::Lists::brackets_not_read, crate::proofs::Lists::brackets_not_closed, crate::proofs::Lists::list_before_close, crate::specs::Spellings::spelled_list))]
+#[tactic(auto, using(crate::proofs::Lists::brackets, crate::proofs::Lists::list_before_close, crate::specs::Spellings::spelled_list))]
 pub(crate) fn list_in_brackets<'a, T: Listed>(
     alloc: Global,
     tokens: &'a [Token],
@@ -120,7 +120,7 @@ pub(crate) fn expr<'a>(alloc: Global, tokens: &'a [Token]) -> Read<'a, ExprTree>
 }
 
 /// An expression in brackets.
-#[tactic(auto, using(crate::proofs::Lists::brackets_read, crate::proofs::Lists::brackets_not_open, crate::proofs::Lists::brackets_not_read, crate::proofs::Lists::brackets_not_closed, crate::specs::After::behind_expr_close, crate::specs::Spellings::spelled_expr))]
+#[tactic(auto, using(crate::proofs::Lists::brackets, crate::specs::After::behind_expr_close, crate::specs::Spellings::spelled_expr))]
 pub(crate) fn expr_in_brackets<'a>(alloc: Global, tokens: &'a [Token]) -> Read<'a, ExprTree>
     ensures { Reads (in_brackets expr) any tokens.now (seen result) }
 {

@@ -23,7 +23,7 @@ use pg_parse_expr::{ExprTree, accept_word};
 use std::alloc::Global;
 
 /// `UPDATE SET sets | DELETE | DO NOTHING`, behind its first word.
-#[tactic(auto, using(crate::proofs::Merges::change_no_set, crate::proofs::Merges::change_no_sets, crate::proofs::Merges::change_sets, crate::proofs::Merges::change_delete, crate::proofs::Merges::change_nothing, crate::proofs::Merges::change_no_nothing), unfolding(crate::specs::Grammar::sets, crate::specs::Behind::behind_sets))]
+#[tactic(auto, using(crate::proofs::Changes::changes), unfolding(crate::specs::Grammar::sets, crate::specs::Behind::behind_sets))]
 fn change_behind<'a>(alloc: Global, tokens: &'a [Token], word: ChangeWord) -> Read<'a, Change>
     ensures { Reads (change_behind word) behind_sets tokens.now (seen result) }
 {
@@ -53,7 +53,7 @@ fn change_behind<'a>(alloc: Global, tokens: &'a [Token], word: ChangeWord) -> Re
 }
 
 /// `UPDATE SET sets | DELETE | DO NOTHING`
-#[tactic(auto, using(crate::proofs::Merges::change_read, crate::proofs::Merges::change_failed))]
+#[tactic(auto, using(crate::proofs::Changes::change_read, crate::proofs::Changes::change_failed))]
 fn change<'a>(alloc: Global, tokens: &'a [Token]) -> Read<'a, Change>
     ensures { Reads change behind_sets tokens.now (seen result) }
 {
@@ -80,7 +80,7 @@ fn addition_insert<'a>(alloc: Global, tokens: &'a [Token]) -> Read<'a, Addition>
 }
 
 /// `DO NOTHING`
-#[tactic(auto, using(crate::proofs::Merges::addition_nothing_no_do, crate::proofs::Merges::addition_nothing_no_word, crate::proofs::Merges::addition_nothing_whole))]
+#[tactic(auto, using(crate::proofs::Changes::addition_nothing_no_do, crate::proofs::Changes::addition_nothing_no_word, crate::proofs::Changes::addition_nothing_whole))]
 fn addition_nothing(tokens: &[Token]) -> Read<'_, Addition>
     ensures { Reads addition_nothing any tokens.now (seen result) }
 {
@@ -97,7 +97,7 @@ fn addition_nothing(tokens: &[Token]) -> Read<'_, Addition>
 }
 
 /// `INSERT ["(" names ")"] VALUES tuple | DO NOTHING`
-#[tactic(auto, using(crate::proofs::Merges::addition_left, crate::proofs::Merges::addition_right))]
+#[tactic(auto, using(crate::proofs::Changes::addition_left, crate::proofs::Changes::addition_right))]
 fn addition<'a>(alloc: Global, tokens: &'a [Token]) -> Read<'a, Addition>
     ensures { Reads addition any tokens.now (seen result) }
 {
@@ -203,7 +203,7 @@ fn when_behind<'a>(alloc: Global, tokens: &'a [Token]) -> Read<'a, When>
 }
 
 /// `when {when}`
-#[tactic(auto, using(crate::proofs::Merges::whens_no_when, crate::proofs::Merges::whens_not_begun, crate::proofs::Merges::whens_begun, crate::proofs::Merges::whens_go_on, crate::proofs::Merges::whens_break_off, crate::proofs::Merges::whens_end, crate::proofs::Lists::reads_no_more))]
+#[tactic(auto, using(crate::proofs::Merges::clauses, crate::proofs::Lists::reads_no_more))]
 fn whens<'a>(alloc: Global, tokens: &'a [Token]) -> Read<'a, Items<When>>
     ensures { Reads whens (behind 14) tokens.now (seen result) }
 {

@@ -37,7 +37,7 @@ fn behind_dot(tokens: &[Token]) -> Option<&[Token]>
 }
 
 /// `name "." "*"`, where the name and what is behind are known.
-#[tactic(auto, using(crate::proofs::Items::item_all_of, crate::proofs::Items::item_no_name))]
+#[tactic(auto, using(crate::proofs::Stars::item_all_of, crate::proofs::Stars::item_no_name))]
 fn all_of<'a>(alloc: Global, tokens: &'a [Token], rest: &'a [Token]) -> Read<'a, Item>
     requires { BeginsAllOf tokens.now rest.now }
     ensures { Reads item behind_item tokens.now (seen result) }
@@ -81,7 +81,7 @@ impl Listed for Item {
 
     ghost follows = { behind_item };
 
-    #[tactic(auto, using(crate::proofs::Items::item_all, crate::proofs::Items::item_begins, crate::proofs::Items::item_expr, crate::proofs::Items::item_own))]
+    #[tactic(auto, using(crate::proofs::Stars::item_all, crate::proofs::Stars::item_begins, crate::proofs::Items::item_expr, crate::proofs::Items::item_own))]
     fn read<'a>(alloc: Global, tokens: &'a [Token]) -> Read<'a, Item> {
         if let Some(rest) = accept_sign(tokens, Sign::Star) {
             return Ok(Part {
@@ -217,7 +217,7 @@ fn limit<'a>(alloc: Global, tokens: &'a [Token]) -> Read<'a, Option<u64>>
 }
 
 /// What is behind the first word of a strength.
-#[tactic(auto, using(crate::proofs::Locks::key_share, crate::proofs::Locks::key_no_share, crate::proofs::Locks::share, crate::proofs::Locks::update, crate::proofs::Locks::no_key_update, crate::proofs::Locks::no_key, crate::proofs::Locks::no_update))]
+#[tactic(auto, using(crate::proofs::Locks::strengths))]
 fn strength_behind(tokens: &[Token], value: LockStrength) -> Read<'_, LockStrength>
     ensures { Reads (strength_behind value) any tokens.now (seen result) }
 {

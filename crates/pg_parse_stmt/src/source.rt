@@ -225,7 +225,7 @@ fn linked<'a, S: FromSource>(
 }
 
 /// Sources with commas and joins between them.
-#[tactic(auto, using(crate::proofs::Froms::from_begun, crate::proofs::Froms::from_not_begun, crate::proofs::Froms::from_goes_on, crate::proofs::Froms::from_breaks_off, crate::proofs::Froms::from_ends, crate::proofs::Froms::sources_more, crate::proofs::Lists::reads_no_more))]
+#[tactic(auto, using(crate::proofs::Froms::froms, crate::proofs::Lists::reads_no_more))]
 pub(crate) fn from<'a, S: FromSource>(
     alloc: Global,
     tokens: &'a [Token],
@@ -353,7 +353,7 @@ fn query_source<'a>(alloc: Global, tokens: &'a [Token], before: usize) -> Read<'
 }
 
 /// What stands in the brackets of a source, `before` sources beginning before it, itself among them.
-#[tactic(auto, using(crate::proofs::Bracketed::bracketed_values_read, crate::proofs::Bracketed::bracketed_values_failed, crate::proofs::Bracketed::bracketed_select_read, crate::proofs::Bracketed::bracketed_select_failed, crate::proofs::Bracketed::bracketed_neither))]
+#[tactic(auto, using(crate::proofs::Bracketed::brackets))]
 fn source_in_brackets<'a>(alloc: Global, tokens: &'a [Token], before: usize) -> Read<'a, Source>
     requires { before ≤ 8 }
     ensures reads { Reads (bracketed before) any tokens.now (seen result) }
@@ -375,7 +375,7 @@ fn source_in_brackets<'a>(alloc: Global, tokens: &'a [Token], before: usize) -> 
 }
 
 /// A source where fewer than eight begin before it.
-#[tactic(auto, using(crate::proofs::Bracketed::source_table_read, crate::proofs::Bracketed::source_table_failed, crate::proofs::Bracketed::source_bracket_read, crate::proofs::Bracketed::source_bracket_failed))]
+#[tactic(auto, using(crate::proofs::Bracketed::each_source))]
 fn source_within<'a>(alloc: Global, tokens: &'a [Token], before: usize) -> Read<'a, Source>
     requires { before + 1 ≤ 8 }
     ensures reads { Reads (source before) behind_table tokens.now (seen result) }

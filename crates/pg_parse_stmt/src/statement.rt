@@ -157,7 +157,7 @@ fn create<'a>(alloc: Global, tokens: &'a [Token]) -> Read<'a, StmtTree>
 }
 
 /// What is behind the first word of a statement, in a version of the language.
-#[tactic(auto, using(crate::proofs::Statements::behind_begin_word, crate::proofs::Statements::behind_commit_word, crate::proofs::Statements::behind_rollback_word, crate::proofs::Statements::behind_select_word, crate::proofs::Statements::behind_insert_word, crate::proofs::Statements::behind_update_word, crate::proofs::Statements::behind_delete_word, crate::proofs::Statements::behind_merge_word, crate::proofs::Statements::behind_create_word))]
+#[tactic(auto, using(crate::proofs::Statements::leads))]
 fn statement_behind<'a>(
     alloc: Global,
     _version: u32,

@@ -1,6 +1,6 @@
 use Rattle.std.proofs.Common.{Some, None, length, refl, true-eqb}
 use Rattle.std.proofs.lemmas.List.{take_rest, nil_from_length}
-use Rattle.pg_lexer.proofs.Readings.{few_tokens_from, read_begins, read_more, read_ends, read_bad, read_less}
+use Rattle.pg_lexer.proofs.Lines.{few_tokens_from, read_begins, read_more, read_ends, read_bad, read_less}
 use Rattle.pg_lexer.proofs.read.read_front.Goals as goal
 
 pub loop-rest-init : goal.loop-rest-init

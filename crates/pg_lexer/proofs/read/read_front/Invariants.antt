@@ -1,5 +1,5 @@
 use Rattle.std.proofs.Common.{length}
-use Rattle.pg_lexer.proofs.Readings.{ReadSoFar}
+use Rattle.pg_lexer.proofs.Lines.{ReadSoFar}
 use Rattle.pg_lexer.proofs.read.read_front.Given as goal
 
 abbrev pub invariant-loop-rest : goal.invariant-loop-rest

@@ -1,8 +1,5 @@
 use Rattle.std.proofs.Common.{[], length}
-use Rattle.pg_grammar.specs.Languages.{more}
-use Rattle.pg_grammar.proofs.Leading.{Leads}
-use Rattle.pg_parse_stmt.specs.Behind.{behind_part}
-use Rattle.pg_parse_stmt.specs.Grammar.{next_rule}
+use Rattle.pg_parse_stmt.proofs.Common.{more, Leads, behind_part, next_rule}
 use Rattle.pg_parse_stmt.proofs.create.column_rules.Given as goal
 
 abbrev pub invariant-loop-word : goal.invariant-loop-word

@@ -1,7 +1,7 @@
 use Rattle.std.proofs.Common.{arith}
-use Rattle.pg_grammar.proofs.Reading.{steps, comes_passed}
-use Rattle.pg_parse_stmt.proofs.PartRules.{rule_named_read}
+use Rattle.pg_parse_stmt.proofs.Common.{steps, comes_passed}
 use Rattle.pg_parse_stmt.proofs.create.constraint_behind_name.Goals as goal
+use Rattle.pg_parse_stmt.proofs.PartRules.{rule_named_read}
 
 pub returns-in_err-name : goal.returns-in_err-name
 returns-in_err-name c =

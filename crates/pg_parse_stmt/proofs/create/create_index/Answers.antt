@@ -1,8 +1,7 @@
 use Rattle.std.proofs.Common.{arith}
-use Rattle.pg_grammar.proofs.Reading.{steps, comes_passed}
-use Rattle.pg_parse_stmt.specs.Grammar.{elements}
-use Rattle.pg_parse_stmt.proofs.StatementRules.{create_index_read}
+use Rattle.pg_parse_stmt.proofs.Common.{steps, comes_passed, elements}
 use Rattle.pg_parse_stmt.proofs.create.create_index.Goals as goal
+use Rattle.pg_parse_stmt.proofs.StatementRules.{create_index_read}
 
 pub returns-in_default : goal.returns-in_default
 unfolding elements

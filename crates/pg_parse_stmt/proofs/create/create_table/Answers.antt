@@ -1,7 +1,7 @@
 use Rattle.std.proofs.Common.{arith}
-use Rattle.pg_grammar.proofs.Reading.{steps, comes_passed}
-use Rattle.pg_parse_stmt.proofs.StatementRules.{create_table_read}
+use Rattle.pg_parse_stmt.proofs.Common.{steps, comes_passed}
 use Rattle.pg_parse_stmt.proofs.create.create_table.Goals as goal
+use Rattle.pg_parse_stmt.proofs.StatementRules.{create_table_read}
 
 pub returns-in_default : goal.returns-in_default
 returns-in_default c =

@@ -1,6 +1,6 @@
-use Rattle.pg_grammar.specs.Parts.{seen}
-use Rattle.pg_parse_stmt.proofs.Elements.{columns_read}
+use Rattle.pg_parse_stmt.proofs.Common.{seen}
 use Rattle.pg_parse_stmt.proofs.insert.columns.Goals as goal
+use Rattle.pg_parse_stmt.proofs.Elements.{columns_read}
 
 pub returns-in-Some : goal.returns-in-Some
 returns-in-Some c =

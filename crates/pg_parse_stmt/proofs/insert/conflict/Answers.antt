@@ -1,7 +1,7 @@
 use Rattle.std.proofs.Common.{refl, arith}
-use Rattle.pg_grammar.proofs.Reading.{steps, comes_mapped, comes_passed}
-use Rattle.pg_parse_stmt.proofs.ConflictRules.{conflict_there, conflict_none}
+use Rattle.pg_parse_stmt.proofs.Common.{steps, comes_mapped, comes_passed}
 use Rattle.pg_parse_stmt.proofs.insert.conflict.Goals as goal
+use Rattle.pg_parse_stmt.proofs.ConflictRules.{conflict_there, conflict_none}
 
 pub returns-in_default : goal.returns-in_default
 returns-in_default c = conflict_none c.in_default.ensures

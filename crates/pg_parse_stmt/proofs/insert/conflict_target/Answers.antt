@@ -1,5 +1,5 @@
-use Rattle.pg_parse_stmt.proofs.Inserts.{target_elements_read, target_elements_failed, target_constraint_read, target_constraint_failed}
 use Rattle.pg_parse_stmt.proofs.insert.conflict_target.Goals as goal
+use Rattle.pg_parse_stmt.proofs.Inserts.{target_elements_read, target_elements_failed, target_constraint_read, target_constraint_failed}
 
 pub returns-in-Ok : goal.returns-in-Ok
 returns-in-Ok c =

@@ -1,9 +1,7 @@
 use Rattle.std.proofs.Common.{arith}
-use Rattle.pg_parse_stmt.specs.Behind.{behind_tuples}
-use Rattle.pg_parse_stmt.specs.Grammar.{tuples}
-use Rattle.pg_grammar.proofs.Reading.{steps, comes_passed, comes_this, comes_other}
-use Rattle.pg_parse_stmt.proofs.ConflictRules.{rows_read, values_no_select}
+use Rattle.pg_parse_stmt.proofs.Common.{behind_tuples, tuples, steps, comes_passed, comes_this, comes_other}
 use Rattle.pg_parse_stmt.proofs.insert.rows.Goals as goal
+use Rattle.pg_parse_stmt.proofs.ConflictRules.{rows_read, values_no_select}
 
 pub returns-in_err-value : goal.returns-in_err-value
 unfolding tuples behind_tuples

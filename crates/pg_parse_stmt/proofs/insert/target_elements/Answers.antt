@@ -1,8 +1,7 @@
 use Rattle.std.proofs.Common.{arith}
-use Rattle.pg_grammar.proofs.Reading.{steps, comes_passed}
-use Rattle.pg_parse_stmt.specs.Grammar.{elements}
-use Rattle.pg_parse_stmt.proofs.PartRules.{target_elements_read}
+use Rattle.pg_parse_stmt.proofs.Common.{steps, comes_passed, elements}
 use Rattle.pg_parse_stmt.proofs.insert.target_elements.Goals as goal
+use Rattle.pg_parse_stmt.proofs.PartRules.{target_elements_read}
 
 pub returns-in_err-elements : goal.returns-in_err-elements
 unfolding elements

@@ -1,9 +1,7 @@
 use Rattle.std.proofs.Common.{arith}
-use Rattle.pg_grammar.proofs.Reading.{steps, comes_passed}
-use Rattle.pg_parse_stmt.specs.Grammar.{sets}
-use Rattle.pg_parse_stmt.specs.Behind.{behind_sets}
-use Rattle.pg_parse_stmt.proofs.PartRules.{upsert_read}
+use Rattle.pg_parse_stmt.proofs.Common.{steps, comes_passed, sets, behind_sets}
 use Rattle.pg_parse_stmt.proofs.insert.upsert.Goals as goal
+use Rattle.pg_parse_stmt.proofs.PartRules.{upsert_read}
 
 pub returns-in_default : goal.returns-in_default
 unfolding sets behind_sets

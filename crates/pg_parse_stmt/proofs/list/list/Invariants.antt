@@ -1,8 +1,5 @@
 use Rattle.std.proofs.Common.{length}
-use Rattle.pg_grammar.specs.Languages.{more}
-use Rattle.pg_grammar.proofs.Leading.{Leads}
-use Rattle.pg_parse_stmt.specs.Behind.{behind_list}
-use Rattle.pg_parse_stmt.specs.Forms.{list_of, next_of}
+use Rattle.pg_parse_stmt.proofs.Common.{more, Leads, behind_list, list_of, next_of}
 use Rattle.pg_parse_stmt.proofs.list.list.Given as goal
 
 abbrev pub invariant-loop-behind : goal.invariant-loop-behind

@@ -1,5 +1,5 @@
-use Rattle.pg_parse_stmt.proofs.Steps.{optional_failed}
 use Rattle.pg_parse_stmt.proofs.list.optional.Goals as goal
+use Rattle.pg_parse_stmt.proofs.Steps.{optional_failed}
 
 pub returns-in-Err : goal.returns-in-Err
 returns-in-Err g c =

@@ -1,6 +1,6 @@
-use Rattle.pg_grammar.specs.Parts.{seen}
-use Rattle.pg_parse_stmt.proofs.Merges.{addition_left}
+use Rattle.pg_parse_stmt.proofs.Common.{seen}
 use Rattle.pg_parse_stmt.proofs.merge.addition.Goals as goal
+use Rattle.pg_parse_stmt.proofs.Changes.{addition_left}
 
 pub returns-in-Some : goal.returns-in-Some
 returns-in-Some c =

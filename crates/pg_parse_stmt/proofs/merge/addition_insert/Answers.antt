@@ -1,8 +1,7 @@
 use Rattle.std.proofs.Common.{arith}
-use Rattle.pg_grammar.proofs.Reading.{steps, comes_passed}
-use Rattle.pg_parse_stmt.specs.Grammar.{tuple}
-use Rattle.pg_parse_stmt.proofs.PartRules.{addition_insert_read}
+use Rattle.pg_parse_stmt.proofs.Common.{steps, comes_passed, tuple}
 use Rattle.pg_parse_stmt.proofs.merge.addition_insert.Goals as goal
+use Rattle.pg_parse_stmt.proofs.PartRules.{addition_insert_read}
 
 pub returns-in_default : goal.returns-in_default
 unfolding tuple

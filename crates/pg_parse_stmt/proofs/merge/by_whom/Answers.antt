@@ -1,6 +1,6 @@
-use Rattle.pg_grammar.specs.Parts.{seen}
-use Rattle.pg_parse_stmt.proofs.Merges.{by_source}
+use Rattle.pg_parse_stmt.proofs.Common.{seen}
 use Rattle.pg_parse_stmt.proofs.merge.by_whom.Goals as goal
+use Rattle.pg_parse_stmt.proofs.Merges.{by_source}
 
 pub returns-in-Some : goal.returns-in-Some
 returns-in-Some c =

@@ -1,8 +1,8 @@
 use Rattle.std.proofs.Common.{arith}
-use Rattle.pg_grammar.proofs.Reading.{steps, comes_passed}
-use Rattle.pg_parse_stmt.proofs.PartRules.{then_read}
-use Rattle.pg_parse_stmt.proofs.Merges.{spelled_the_change}
+use Rattle.pg_parse_stmt.proofs.Common.{steps, comes_passed}
 use Rattle.pg_parse_stmt.proofs.merge.not_by_source.Goals as goal
+use Rattle.pg_parse_stmt.proofs.PartRules.{then_read}
+use Rattle.pg_parse_stmt.proofs.Changes.{spelled_the_change}
 
 pub returns-in_err-condition : goal.returns-in_err-condition
 returns-in_err-condition c =

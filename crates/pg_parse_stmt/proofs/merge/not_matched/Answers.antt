@@ -1,6 +1,6 @@
-use Rattle.pg_grammar.specs.Parts.{seen}
-use Rattle.pg_parse_stmt.proofs.Merges.{not_matched_by}
+use Rattle.pg_parse_stmt.proofs.Common.{seen}
 use Rattle.pg_parse_stmt.proofs.merge.not_matched.Goals as goal
+use Rattle.pg_parse_stmt.proofs.Merges.{not_matched_by}
 
 pub returns-in-Some : goal.returns-in-Some
 returns-in-Some c =

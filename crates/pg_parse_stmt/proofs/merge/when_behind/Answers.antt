@@ -1,6 +1,6 @@
-use Rattle.pg_grammar.specs.Parts.{seen}
-use Rattle.pg_parse_stmt.proofs.Merges.{when_matched, when_not_matched}
+use Rattle.pg_parse_stmt.proofs.Common.{seen}
 use Rattle.pg_parse_stmt.proofs.merge.when_behind.Goals as goal
+use Rattle.pg_parse_stmt.proofs.Merges.{when_matched, when_not_matched}
 
 pub returns-in-Some : goal.returns-in-Some
 returns-in-Some c =

@@ -1,6 +1,6 @@
 use Rattle.std.proofs.Common.{rules}
-use Rattle.pg_parse_stmt.proofs.Items.{dotted_no_dot, dotted_no_name}
 use Rattle.pg_parse_stmt.proofs.select.behind_dot.Goals as goal
+use Rattle.pg_parse_stmt.proofs.Items.{dotted_no_dot, dotted_no_name}
 
 pub returns-in-None-accept_sign : goal.returns-in-None-accept_sign
 returns-in-None-accept_sign c =

@@ -1,7 +1,7 @@
 use Rattle.std.proofs.Common.{arith}
-use Rattle.pg_grammar.proofs.Reading.{steps, comes_passed}
-use Rattle.pg_parse_stmt.proofs.PartRules.{locked_read}
+use Rattle.pg_parse_stmt.proofs.Common.{steps, comes_passed}
 use Rattle.pg_parse_stmt.proofs.select.locked.Goals as goal
+use Rattle.pg_parse_stmt.proofs.PartRules.{locked_read}
 
 pub returns-in_err-strength : goal.returns-in_err-strength
 returns-in_err-strength c =

@@ -1,7 +1,7 @@
 use Rattle.std.proofs.Common.{arith}
-use Rattle.pg_grammar.proofs.Reading.{steps, comes_passed}
-use Rattle.pg_parse_stmt.proofs.PartRules.{named_expr_read}
+use Rattle.pg_parse_stmt.proofs.Common.{steps, comes_passed}
 use Rattle.pg_parse_stmt.proofs.select.named_expr.Goals as goal
+use Rattle.pg_parse_stmt.proofs.PartRules.{named_expr_read}
 
 pub returns-in_err-expr : goal.returns-in_err-expr
 returns-in_err-expr c =

@@ -1,6 +1,6 @@
-use Rattle.pg_grammar.specs.Parts.{seen}
-use Rattle.pg_parse_stmt.proofs.Orders.{order_read}
+use Rattle.pg_parse_stmt.proofs.Common.{seen}
 use Rattle.pg_parse_stmt.proofs.select.order.Goals as goal
+use Rattle.pg_parse_stmt.proofs.Orders.{order_read}
 
 pub returns-in-Some-accept_word : goal.returns-in-Some-accept_word
 returns-in-Some-accept_word c =

@@ -1,9 +1,7 @@
 use Rattle.std.proofs.Common.{arith}
-use Rattle.pg_grammar.proofs.Reading.{steps, comes_passed}
-use Rattle.pg_parse_stmt.specs.Grammar.{items}
-use Rattle.pg_parse_stmt.specs.Behind.{behind_items}
-use Rattle.pg_parse_stmt.proofs.StatementRules.{select_read}
+use Rattle.pg_parse_stmt.proofs.Common.{steps, comes_passed, items, behind_items}
 use Rattle.pg_parse_stmt.proofs.select.select.Goals as goal
+use Rattle.pg_parse_stmt.proofs.StatementRules.{select_read}
 
 pub returns-in_err-items : goal.returns-in_err-items
 unfolding items behind_items

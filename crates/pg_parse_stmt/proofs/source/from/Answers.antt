@@ -1,5 +1,5 @@
-use Rattle.pg_parse_stmt.proofs.Froms.{from_begun, from_next, counted_first, counted_more, counted_limit}
 use Rattle.pg_parse_stmt.proofs.source.from.Goals as goal
+use Rattle.pg_parse_stmt.proofs.Froms.{from_begun, from_next, counted_first, counted_more, counted_limit}
 
 pub loop-link-init : goal.loop-link-init
 loop-link-init g c = (

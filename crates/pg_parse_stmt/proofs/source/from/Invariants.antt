@@ -1,8 +1,5 @@
 use Rattle.std.proofs.Common.{◌≡◌, ◌≤◌, ◌+◌, length}
-use Rattle.pg_grammar.specs.Languages.{more}
-use Rattle.pg_grammar.proofs.Leading.{Leads}
-use Rattle.pg_parse_stmt.specs.Behind.{behind_from}
-use Rattle.pg_parse_stmt.specs.Grammar.{from_of, next_source, sources_in}
+use Rattle.pg_parse_stmt.proofs.Common.{more, Leads, behind_from, from_of, next_source, sources_in}
 use Rattle.pg_parse_stmt.proofs.source.from.Given as goal
 
 abbrev pub invariant-loop-link : goal.invariant-loop-link

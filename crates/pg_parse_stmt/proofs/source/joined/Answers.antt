@@ -1,7 +1,7 @@
 use Rattle.std.proofs.Common.{arith}
-use Rattle.pg_grammar.proofs.Reading.{steps, comes_passed}
-use Rattle.pg_parse_stmt.proofs.Froms.{joined_read}
+use Rattle.pg_parse_stmt.proofs.Common.{steps, comes_passed}
 use Rattle.pg_parse_stmt.proofs.source.joined.Goals as goal
+use Rattle.pg_parse_stmt.proofs.Froms.{joined_read}
 
 pub returns-in_err-source-clause-reads : goal.returns-in_err-source-clause-reads
 returns-in_err-source-clause-reads g c =

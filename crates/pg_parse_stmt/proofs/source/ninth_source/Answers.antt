@@ -1,6 +1,6 @@
 use Rattle.std.proofs.Common.{refl}
-use Rattle.pg_parse_stmt.proofs.Bracketed.{source_ninth_bracket}
 use Rattle.pg_parse_stmt.proofs.source.ninth_source.Goals as goal
+use Rattle.pg_parse_stmt.proofs.Bracketed.{source_ninth_bracket}
 
 pub returns-in-Some : goal.returns-in-Some
 returns-in-Some c =

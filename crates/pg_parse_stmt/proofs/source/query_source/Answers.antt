@@ -1,7 +1,7 @@
 use Rattle.std.proofs.Common.{arith}
-use Rattle.pg_grammar.proofs.Reading.{steps, comes_passed}
-use Rattle.pg_parse_stmt.proofs.SourceRules.{query_source_read}
+use Rattle.pg_parse_stmt.proofs.Common.{steps, comes_passed}
 use Rattle.pg_parse_stmt.proofs.source.query_source.Goals as goal
+use Rattle.pg_parse_stmt.proofs.SourceRules.{query_source_read}
 
 pub returns-in_err-query-clause-reads : goal.returns-in_err-query-clause-reads
 returns-in_err-query-clause-reads c =

@@ -1,9 +1,7 @@
 use Rattle.std.proofs.Common.{arith}
-use Rattle.pg_grammar.proofs.Reading.{steps, comes_passed}
-use Rattle.pg_parse_stmt.specs.Grammar.{items}
-use Rattle.pg_parse_stmt.specs.Behind.{behind_items}
-use Rattle.pg_parse_stmt.proofs.SourceRules.{subselect_read}
+use Rattle.pg_parse_stmt.proofs.Common.{steps, comes_passed, items, behind_items}
 use Rattle.pg_parse_stmt.proofs.source.subselect.Goals as goal
+use Rattle.pg_parse_stmt.proofs.SourceRules.{subselect_read}
 
 pub returns-in_err-items-clause-reads : goal.returns-in_err-items-clause-reads
 unfolding items behind_items

@@ -1,9 +1,7 @@
 use Rattle.std.proofs.Common.{arith}
-use Rattle.pg_grammar.proofs.Reading.{steps, comes_passed}
-use Rattle.pg_parse_stmt.specs.Grammar.{tuples, names}
-use Rattle.pg_parse_stmt.specs.Behind.{behind_tuples}
-use Rattle.pg_parse_stmt.proofs.SourceRules.{values_source_read}
+use Rattle.pg_parse_stmt.proofs.Common.{steps, comes_passed, tuples, names, behind_tuples}
 use Rattle.pg_parse_stmt.proofs.source.values_source.Goals as goal
+use Rattle.pg_parse_stmt.proofs.SourceRules.{values_source_read}
 
 pub returns-in_err-rows-clause-reads : goal.returns-in_err-rows-clause-reads
 unfolding tuples names behind_tuples

@@ -1,6 +1,6 @@
-use Rattle.pg_grammar.proofs.Reading.{steps}
-use Rattle.pg_parse_stmt.proofs.PartRules.{committed_read}
+use Rattle.pg_parse_stmt.proofs.Common.{steps}
 use Rattle.pg_parse_stmt.proofs.statement.committed.Goals as goal
+use Rattle.pg_parse_stmt.proofs.PartRules.{committed_read}
 
 pub returns-in_default : goal.returns-in_default
 returns-in_default c =

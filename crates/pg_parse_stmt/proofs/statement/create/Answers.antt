@@ -1,6 +1,6 @@
-use Rattle.pg_grammar.specs.Parts.{seen}
-use Rattle.pg_parse_stmt.proofs.Statements.{table_on}
+use Rattle.pg_parse_stmt.proofs.Common.{seen}
 use Rattle.pg_parse_stmt.proofs.statement.create.Goals as goal
+use Rattle.pg_parse_stmt.proofs.Statements.{table_on}
 
 pub returns-in-Some : goal.returns-in-Some
 returns-in-Some c =

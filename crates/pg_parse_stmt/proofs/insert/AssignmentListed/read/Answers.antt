@@ -1,7 +1,7 @@
 use Rattle.std.proofs.Common.{arith}
-use Rattle.pg_grammar.proofs.Reading.{steps, comes_passed}
-use Rattle.pg_parse_stmt.proofs.PartRules.{assignment_read}
+use Rattle.pg_parse_stmt.proofs.Common.{steps, comes_passed}
 use Rattle.pg_parse_stmt.proofs.insert.AssignmentListed.read.Goals as goal
+use Rattle.pg_parse_stmt.proofs.PartRules.{assignment_read}
 
 pub returns-in_err-column : goal.returns-in_err-column
 returns-in_err-column c =

@@ -1,5 +1,5 @@
-use Rattle.pg_parse_stmt.proofs.Elements.{element_expr, element_no_expr}
 use Rattle.pg_parse_stmt.proofs.insert.ElementListed.read.Goals as goal
+use Rattle.pg_parse_stmt.proofs.Elements.{element_expr, element_no_expr}
 
 pub returns-in-Ok : goal.returns-in-Ok
 returns-in-Ok c =

@@ -1,7 +1,7 @@
 use Rattle.std.proofs.Common.{rules}
-use Rattle.pg_grammar.specs.Parts.{seen}
-use Rattle.pg_parse_stmt.proofs.Items.{item_expr}
+use Rattle.pg_parse_stmt.proofs.Common.{seen}
 use Rattle.pg_parse_stmt.proofs.select.ItemListed.read.Goals as goal
+use Rattle.pg_parse_stmt.proofs.Items.{item_expr}
 
 pub returns-in-None : goal.returns-in-None
 returns-in-None c =
