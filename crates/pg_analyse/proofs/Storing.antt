@@ -92,6 +92,9 @@ step_tuples columns numbers row rows fits fit after is both =
     ∙ ap (λ b. fits && b)
     (sym (empty_append (store_errors columns numbers row) (flat_map (store_errors columns numbers) rows)))
 
+-- what the resolution of rows goes by
+pub ruleset rows_resolved = (stops_before, stops_behind, stops_last, none_left, step_tuples)
+
 empty_test : (b : Bool) → is_empty (if b then [] else WrongKind ∷ []) ≡ b
 empty_test true = refl
 empty_test false = refl

@@ -182,7 +182,7 @@ fn is_count(columns: &Columns, names: &[NameText], count: usize) -> bool
 }
 
 /// The rows with their names resolved, whose values may all be stored; or their first error.
-#[tactic(auto, using(crate::proofs::Stopping::stops_before, crate::proofs::Stopping::stops_behind, crate::proofs::Storing::stops_last, crate::proofs::Storing::none_left, crate::proofs::Storing::step_tuples))]
+#[tactic(auto, using(crate::proofs::Storing::rows_resolved))]
 fn resolve_rows(
     alloc: Global,
     columns: &Columns,

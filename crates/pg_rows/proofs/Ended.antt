@@ -251,26 +251,6 @@ given_up_none store (suc before) state is none = ap (shown store.drawn) (at (sli
         (ap (λ s. slice_set store.versions before (record stored { state = s })) (ap (ended_state true) e ∙ (state_same state none ∙ sym e))
         ∙ set_same store.versions before stored there)
 
--- a draft that is given up is dead
-pub given_up_draft : (store : StoreView) (number : ℕ) (state : State) → option_map (λ stored. stored.state) (stored_of store.versions number) ≡ Some state →
-    is_placed state ≡ true →
-    record store { versions = with_changed_nth_item (λ stored. record stored { state = Dead }) store.versions number } ≡ with_given_up store number
-given_up_draft store zero state is placed = refl
-given_up_draft store (suc before) state is placed = ap (shown store.drawn) (at (slice_get store.versions before) is)
-  where
-    state_dead : (state : State) → is_placed state ≡ true → Dead ≡ ended_state true state
-    state_dead Placed placed = refl
-    state_dead Settled placed = absurd (cc placed)
-    state_dead Dead placed = absurd (cc placed)
-
-    at : (o : Option Stored) → option_map (λ stored. stored.state) o ≡ Some state →
-        option_map_or (λ stored. slice_set store.versions before (record stored { state = Dead })) o store.versions
-        ≡ option_map_or (λ stored. slice_set store.versions before (record stored { state = ended_state true stored.state })) o store.versions
-    at None is = refl
-    at (Some stored) is =
-        let e : stored.state ≡ state = cc is in
-        ap (λ s. slice_set store.versions before (record stored { state = s })) (state_dead state placed ∙ ap (ended_state true) (sym e))
-
 -- the state that the heap tells is the one that is shown
 pub shown_state : (slots : List Slot) (number : ℕ) (state : State) → state_of_slot slots number ≡ Some state →
     option_map (λ stored. stored.state) (stored_of (stored_slots slots) number) ≡ Some state

@@ -5,6 +5,7 @@ pub mod Attached
 pub mod Reading
 pub mod Read
 pub mod Rows
-pub mod Unwound
+pub mod Unwinding
+pub mod Undone
 pub mod Ended
 pub mod Shown

@@ -1,5 +1,6 @@
 -- The rows that a store keeps, as its versions change.
 use Rattle.std.proofs.Common.{◌≡◌, ◌≢◌, ◌<◌, ◌≤◌, ◌+◌, ◌++◌, ◌&&◌, ◌⊎◌, inl, inr, ℕ, zero, suc, Bool, true, false, cond, List, [], ◌∷◌, Option, Some, None, length, map, filter, option_map, nat_eq, not, slice_get, slice_set, refl, ap, ap₂, sym, ◌∙◌, arith, append-nil, add-one, eq-eqb, ne_eqb}
+use Rattle.std.proofs.Math.Bool.{and-false}
 use Rattle.std.proofs.lemmas.Bool.{cases_eq, cases_lt}
 use Rattle.std.proofs.lemmas.List.{map-append}
 use Rattle.pg_values.specs.declared.value.Value.{Value}
@@ -45,12 +46,8 @@ versions_none : (versions : List Stored) (row : ℕ) → ((i : ℕ) (stored : St
     versions_of row versions ≡ []
 versions_none [] row none = refl
 versions_none (stored ∷ versions) row none =
-    rw (ne_eqb stored.row row (none 0 stored refl), and_none (is_settled stored.state))
+    rw (ne_eqb stored.row row (none 0 stored refl), and-false (is_settled stored.state))
     (versions_none versions row (λ i more is. none (suc i) more is))
-  where
-    and_none : (b : Bool) → (b && false) ≡ false
-    and_none true = refl
-    and_none false = refl
 
 -- the next row number is drawn, where no version is for a row behind the last
 pub rows_placed : (store : StoreView) (me : Me) (values : List Value) →

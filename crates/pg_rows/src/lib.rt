@@ -6,6 +6,7 @@ mod laws;
 mod scan;
 mod store;
 mod versions;
+mod visibility;
 
 pub use laws::{
     attached_draft_is_stored, current_is_current, draft_changes_no_row, ended_store_keeps_its_rows,

@@ -1,5 +1,5 @@
 -- The answer for a line, by what was found of its form.
-use Rattle.std.proofs.Common.{◌+◌, ◌≤◌, length, ◌≡◌, refl, sym, ◌∙◌, subst, ℕ, List, [], ◌∷◌, ◌++◌, Option, Some, None, Result, Ok, Err}
+use Rattle.std.proofs.Common.{◌+◌, ◌≤◌, length, ◌≡◌, refl, sym, ℕ, List, ◌∷◌, Some, None, Result, Ok, Err}
 use Rattle.pg_model.specs.declared.error.SqlError.{SqlError}
 use Rattle.pg_line.specs.declared.form.LineForm.{LineForm}
 use Rattle.pg_line.specs.Forms.{IsFormOf}
@@ -8,7 +8,7 @@ use Rattle.pg_script.specs.declared.fault.Reason.{Reason}
 use Rattle.pg_script.specs.declared.fault.Reason.TheVariants as reason
 use Rattle.pg_script.specs.declared.fault.ScriptFault.{ScriptFault}
 use Rattle.pg_script.specs.declared.fault.ScriptFault.TheVariants as script_fault
-use Rattle.pg_script.specs.Drafts.{AreTaken, IsAdded, IsFormAnswer, HasParts, IsBodyAnswer, IsLineAnswer, IsLinesAnswer, IsReadTo, IsStopped, IsTaken, early_reasons, empty_draft, errors_in, first_of}
+use Rattle.pg_script.specs.Drafts.{IsAdded, IsFormAnswer, HasParts, IsBodyAnswer, IsLineAnswer, IsLinesAnswer, IsReadTo, early_reasons, empty_draft, errors_in, first_of}
 use Rattle.pg_script.specs.Reasons.{setup_reasons}
 use Rattle.pg_script.proofs.Firsts.{first_late, first_more, none_first}
 use Rattle.pg_model.specs.declared.script.Mode.{Mode}
@@ -16,7 +16,7 @@ use Rattle.pg_model.specs.declared.script.Script.{Script}
 use Rattle.pg_script.specs.Bytes.{lines_in}
 use Rattle.pg_script.specs.Headings.{mode_in}
 use Rattle.pg_script.specs.Reading.{IsRead}
-use Rattle.pg_script.proofs.Reached.{reached_at}
+use Rattle.pg_script.proofs.Reached.{reached_all, reached_at, reached_first, reached_more}
 use Rattle.pg_script.proofs.Says.{said, stopped}
 
 -- a form that is refused before analysis
@@ -65,6 +65,9 @@ stopped_at old middle new lines rest more line (script_fault.Refused number why)
       refused = answer.1;
     }
 stopped_at old middle new lines rest more line script_fault.Memory reached is answer = answer
+
+-- what the reading of the lines behind the first goes by
+pub ruleset lines_read = (reached_first, reached_more, reached_all, next_number, stopped_at)
 
 -- all lines behind the first were taken
 pub body_taken : (mode : Mode) (lines : List (List ℕ)) (draft : Draft) (script : Script) (done : Unit {0}) →

@@ -1,15 +1,16 @@
 -- Names in order of first appearance, and one name more behind them.
-use Rattle.std.proofs.Common.{◌≡◌, append-nil, arith, refl, sym, ◌∙◌, ap, ℕ, suc, zero, Bool, true, false, true≢false, not, ◌||◌, ◌+◌, ◌<◌, cond, nat_lt, List, [], ◌∷◌, ◌++◌, length, Option, Some, None}
+use Rattle.std.proofs.Common.{◌≡◌, append-nil, arith, refl, sym, ◌∙◌, ap, ℕ, suc, Bool, true, false, true≢false, not, ◌||◌, ◌+◌, cond, nat_lt, List, [], ◌∷◌, ◌++◌, length, Option, Some, None}
 use Rattle.std.specs.Prelude.{filter}
 use Rattle.std.proofs.lemmas.Bool.Decides.{not_from_Decides}
 use Rattle.std.proofs.lemmas.Slice.Eq.{bytes_eq-Decides}
 use Rattle.std.specs.Bool.{Decides}
-use Rattle.std.specs.List.{list_any, position_or_len}
+use Rattle.std.specs.List.{position_or_len}
 use Rattle.std.specs.Option.{option_map}
 use Rattle.std.proofs.lemmas.Grind.{common_steps}
 use Rattle.std.specs.Str.{bytes_eq}
 use Rattle.pg_names.specs.Names.{is_among, number_of}
 use Rattle.pg_script.specs.Appearances.{first_appearances}
+use Rattle.pg_script.specs.Drafts.{with_name}
 
 same_by : (x y : List ℕ) (a b : Bool) → Decides a (x ≡ y) → Decides b (y ≡ x) → a ≡ b
 same_by x y false false one other = refl
@@ -55,21 +56,7 @@ others_have x name (y ∷ ys) differ = at (bytes_eq x y) refl (others_have x nam
         let other : bytes_eq name y ≡ false = ap (λ z. bytes_eq name z) (sym same) ∙ differ in
         rest ∙ ap (λ b. b || is_among ys name) (sym other)
 
--- a name appears where it stands among the names
-pub appears : (names : List (List ℕ)) (name : List ℕ) → is_among (first_appearances names) name ≡ is_among names name
-appears [] name = refl
-appears (x ∷ xs) name = at (bytes_eq name x) refl (appears xs name)
-  where
-    at : (b : Bool) → bytes_eq name x ≡ b → is_among (first_appearances xs) name ≡ is_among xs name →
-        (b || is_among (filter (λ other. not (bytes_eq x other)) (first_appearances xs)) name) ≡ (b || is_among xs name)
-    at true is rest = refl
-    at false is rest = others_have x name (first_appearances xs) is ∙ rest
-
--- one name more behind others: it stands behind those that appeared, unless it is one of them
-abbrev pub with_name : List (List ℕ) → List ℕ → List (List ℕ)
-with_name names name = cond (is_among names name) names (names ++ name ∷ [])
-
--- the same, for a name behind those that are not another
+-- one name more behind others, those that are not another taken
 others_more : (x name : List ℕ) (ys : List (List ℕ)) (here : Bool) (among : Bool) → bytes_eq name x ≡ here →
     x ∷ filter (λ other. not (bytes_eq x other)) (cond among ys (ys ++ name ∷ []))
     ≡ cond (here || among) (x ∷ filter (λ other. not (bytes_eq x other)) ys)

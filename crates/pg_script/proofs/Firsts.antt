@@ -1,5 +1,5 @@
 -- The first of some reasons.
-use Rattle.std.proofs.Common.{◌≡◌, refl, ◌∙◌, ap, sym, arith, ◌≤◌, Bool, true, false, true≢false, not, List, [], ◌∷◌, ◌++◌, length, Some, None, nat_le, cond}
+use Rattle.std.proofs.Common.{◌≡◌, refl, ap, sym, ◌≤◌, Bool, true, false, true≢false, not, List, [], ◌∷◌, ◌++◌, length, Some, None}
 use Rattle.std.proofs.lemmas.Bool.{leb-true}
 use Rattle.pg_model.specs.Limits.{most_sessions}
 use Rattle.pg_line.specs.declared.form.LineForm.{LineForm}

@@ -1,18 +1,13 @@
 -- What lines say together, and one line more behind them.
-use Rattle.std.proofs.Common.{append-nil, length-append, arith, ◌≡◌, refl, sym, ◌∙◌, ap, subst, ℕ, suc, ◌+◌, Bool, true, false, true≢false, not, ◌||◌, cond, List, [], ◌∷◌, ◌++◌, length, Option, Some, None, Ok, Err, flat_map, filter_map}
-use Rattle.std.specs.Prelude.{Result, option_to_list, unwrap_or}
-use Rattle.std.specs.List.{AllByRecursion, AllZip, cons_option, list_any}
-use Rattle.pg_names.specs.Names.{is_among, number_of}
-use Rattle.pg_parse_stmt.specs.declared.tree.StmtTree.{StmtTree}
-use Rattle.pg_parse_stmt.specs.declared.tree.StmtTree.TheVariants as stmt
+use Rattle.std.proofs.Common.{append-nil, arith, ◌≡◌, refl, sym, ◌∙◌, ap, ℕ, suc, ◌+◌, Bool, true, false, ◌||◌, List, [], ◌∷◌, ◌++◌, length, Option, Some, None, flat_map, filter_map}
+use Rattle.std.specs.Prelude.{option_to_list}
+use Rattle.std.specs.List.{cons_option, list_any}
 use Rattle.pg_model.specs.declared.catalogue.TableShape.{TableShape}
-use Rattle.pg_model.specs.declared.script.Line.{Line}
-use Rattle.pg_model.specs.declared.script.SetupInsert.{SetupInsert}
 use Rattle.pg_line.specs.declared.form.LineForm.{LineForm}
 use Rattle.pg_line.specs.declared.form.LineForm.TheVariants as form
 use Rattle.pg_script.specs.Appearances.{first_appearances}
 use Rattle.pg_script.specs.Drafts.{is_other, with_name, with_names}
-use Rattle.pg_script.specs.Parts.{Numbered, catalogue_of, line_in, lines_of, numbered_from, numbered_lines, session_names, sessions_of, setup_in, setup_rows_of, tables_behind, tables_from}
+use Rattle.pg_script.specs.Parts.{catalogue_of, numbered_from, session_names, sessions_of, tables_behind, tables_from}
 use Rattle.pg_script.proofs.Appearances.{appearances_more}
 
 -- one line more, numbered

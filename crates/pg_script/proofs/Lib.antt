@@ -9,6 +9,8 @@ pub mod Taken
 pub mod Says
 pub mod Reached
 pub mod Drafts
+pub mod FittingLines
 pub mod Fitting
 pub mod OneReading
+pub mod OneRefusal
 pub mod Answering

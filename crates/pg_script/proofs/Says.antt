@@ -1,5 +1,5 @@
 -- What was read is what the bytes say.
-use Rattle.std.proofs.Common.{arith, ◌≡◌, refl, sym, ◌∙◌, ap, subst, ℕ, suc, ◌+◌, ◌≤◌, ◌<◌, List, [], ◌∷◌, ◌++◌, length, Option, Some, None, Bool, true, false, cond, ◌&&◌, inl, inr}
+use Rattle.std.proofs.Common.{arith, ◌≡◌, refl, sym, ◌∙◌, ap, ℕ, suc, ◌+◌, ◌≤◌, List, [], ◌∷◌, length, Option, Some, None, Bool, true, false, cond, ◌&&◌, inl, inr}
 use Rattle.std.specs.Prelude.{codes}
 use Rattle.std.specs.Option.{option_map}
 use Rattle.std.specs.List.{AllZip}
@@ -14,7 +14,7 @@ use Rattle.pg_script.specs.Bytes.{lines_in}
 use Rattle.pg_script.specs.Drafts.{AreTaken, HasParts, IsStopped, empty_draft}
 use Rattle.pg_script.specs.Headings.{Heading, heading_in, heading_of, mode_in, mode_of}
 use Rattle.pg_line.specs.Words.{Word, is_the, words_of}
-use Rattle.pg_script.specs.Reading.{AreForms, IsFirstRefused, IsRefused, LacksHeader, Say, SayForms, most_bytes}
+use Rattle.pg_script.specs.Reading.{IsRefused, Say}
 use Rattle.pg_script.proofs.Firsts.{first_is}
 use Rattle.pg_script.proofs.Steps.{reasons_are}
 use Rattle.pg_script.proofs.Taken.{all_held}

@@ -1,20 +1,16 @@
 -- The parts that lines say, when tables or sessions follow.
-use Rattle.std.proofs.Common.{append-nil, ◌≡◌, refl, sym, ◌∙◌, ap, ℕ, suc, Bool, true, false, ◌||◌, cond, List, [], ◌∷◌, ◌++◌, length, Option, Some, None, Ok, Err, filter_map}
-use Rattle.std.specs.Prelude.{⊤, Result}
-use Rattle.std.specs.Option.{option_map}
-use Rattle.std.specs.Str.{bytes_eq}
+use Rattle.std.proofs.Common.{append-nil, ◌≡◌, refl, sym, ◌∙◌, ap, ℕ, suc, true, false, List, [], ◌∷◌, ◌++◌, Some, None, Ok, Err, filter_map}
+use Rattle.std.specs.Prelude.{⊤}
 use Rattle.std.specs.List.{AllByRecursion, cons_option, list_any}
-use Rattle.pg_names.specs.Names.{is_among, number_of}
+use Rattle.pg_names.specs.Names.{number_of}
 use Rattle.pg_model.specs.declared.catalogue.TableShape.{TableShape}
-use Rattle.pg_model.specs.declared.script.Line.{Line}
-use Rattle.pg_model.specs.declared.script.SetupInsert.{SetupInsert}
 use Rattle.pg_line.specs.declared.form.LineForm.{LineForm}
 use Rattle.pg_line.specs.declared.form.LineForm.TheVariants as form
 use Rattle.pg_analyse.specs.Analysis.{analysis, declaration}
-use Rattle.pg_script.specs.Drafts.{is_other, with_name, with_names}
+use Rattle.pg_script.specs.Drafts.{is_other}
 use Rattle.pg_script.specs.Parts.{given_line, given_statement, line_in, numbered_from, session_names, setup_in, setup_insert, tables_behind, with_table}
 use Rattle.pg_script.specs.Reasons.{fault_reasons, is_of_setup}
-use Rattle.pg_script.proofs.Appearances.{number_grows, number_new, number_step}
+use Rattle.pg_script.proofs.Appearances.{number_grows}
 use Rattle.pg_script.proofs.Stable.{setup_grows}
 
 -- the statement of a setup line is one that it may have, and has no error over these tables

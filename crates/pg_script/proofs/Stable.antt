@@ -1,6 +1,5 @@
 -- What a line says stays the same when tables or sessions follow.
-use Rattle.std.proofs.Common.{append-nil, ◌≡◌, refl, sym, ◌∙◌, ap, ℕ, suc, zero, Bool, true, false, cond, List, [], ◌∷◌, ◌++◌, map, Option, Some, None, Ok, Err, slice_get}
-use Rattle.std.specs.Prelude.{Result, unwrap_or}
+use Rattle.std.proofs.Common.{◌≡◌, refl, ◌∙◌, ap, ℕ, suc, zero, Bool, true, false, cond, List, [], ◌∷◌, ◌++◌, Option, Some, None, Err}
 use Rattle.std.specs.Option.{option_and_then, option_map}
 use Rattle.std.proofs.lemmas.List.{map-append}
 use Rattle.pg_lists.specs.Numbered.{item_at}
@@ -10,7 +9,6 @@ use Rattle.pg_parse_stmt.specs.declared.tree.StmtTree.{StmtTree}
 use Rattle.pg_parse_stmt.specs.declared.tree.StmtTree.TheVariants as stmt
 use Rattle.pg_model.specs.declared.catalogue.TableShape.{TableShape}
 use Rattle.pg_model.specs.declared.statement.NamedTable.{NamedTable}
-use Rattle.pg_analyse.specs.declared.fault.AnalyseFault.{AnalyseFault}
 use Rattle.pg_analyse.specs.declared.fault.AnalyseFault.TheVariants as fault
 use Rattle.pg_analyse.specs.Analysis.{analysis, insert_analysis}
 use Rattle.pg_analyse.specs.Built.{is_built_statement}

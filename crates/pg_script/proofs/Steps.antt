@@ -1,21 +1,19 @@
 -- A draft has the parts that the lines so far say, and keeps them with one line more.
-use Rattle.std.proofs.Common.{length-append, append-nil, arith, ◌≡◌, refl, sym, ◌∙◌, ap, subst, ℕ, suc, ◌+◌, ◌≤◌, Bool, true, false, not, ◌||◌, ◌&&◌, cond, List, [], ◌∷◌, ◌++◌, length, Option, Some, None, Ok, Err, filter_map, inl, inr}
+use Rattle.std.proofs.Common.{append-nil, ◌≡◌, refl, sym, ◌∙◌, ap, ℕ, suc, ◌+◌, Bool, true, false, not, ◌||◌, ◌&&◌, cond, List, [], ◌∷◌, ◌++◌, length, Some, Ok, Err, filter_map, inl, inr}
 use Rattle.std.specs.Prelude.{◌⊎◌, option_to_list}
-use Rattle.std.specs.List.{AllByRecursion, AllZip, list_any}
-use Rattle.pg_model.specs.declared.catalogue.TableShape.{TableShape}
+use Rattle.std.specs.List.{AllByRecursion, list_any}
 use Rattle.pg_model.specs.declared.script.Mode.{Mode}
 use Rattle.pg_line.specs.declared.form.LineForm.{LineForm}
 use Rattle.pg_line.specs.declared.form.LineForm.TheVariants as form
-use Rattle.pg_analyse.specs.Analysis.{analysis, declaration}
+use Rattle.pg_analyse.specs.Analysis.{declaration}
 use Rattle.pg_script.specs.declared.draft.Draft.{Draft}
-use Rattle.pg_script.specs.declared.fault.Reason.{Reason}
-use Rattle.pg_script.specs.Drafts.{IsAdded, IsDraftOf, early_reasons, is_other, with_name, with_names}
-use Rattle.pg_script.specs.Parts.{catalogue_of, line_in, lines_of, numbered_from, session_names, sessions_of, setup_in, setup_rows_of, tables_behind}
+use Rattle.pg_script.specs.Drafts.{IsDraftOf, early_reasons, is_other, with_name, with_names}
+use Rattle.pg_script.specs.Parts.{catalogue_of, line_in, lines_of, numbered_from, session_names, sessions_of, setup_in, setup_rows_of}
 use Rattle.pg_script.specs.Reading.{AreFine}
 use Rattle.pg_script.specs.Reasons.{fault_reasons, is_misplaced, is_of_setup, is_setup, reasons_of, setup_reasons}
 use Rattle.pg_script.proofs.Firsts.{left_none, not_told, right_none}
 use Rattle.pg_script.proofs.Held.{catalogue_more, filter_map_more, numbered_more, others_more, sessions_more}
-use Rattle.pg_script.proofs.Settled.{Known, Settled, all_known_grow, all_settled_grow, gives_none, lines_stay, rows_stay, setup_stays, settled_grows, tables_follow}
+use Rattle.pg_script.proofs.Settled.{Known, Settled, gives_none, lines_stay, rows_stay, setup_stays, tables_follow}
 use Rattle.pg_script.proofs.Appearances.{number_new, number_step}
 use Rattle.pg_names.specs.Names.{is_among, number_of}
 use Rattle.std.specs.Str.{bytes_eq}

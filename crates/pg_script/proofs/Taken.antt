@@ -1,6 +1,5 @@
 -- Lines that were taken one behind the other have forms that are fine, and the draft has what these say.
-use Rattle.std.proofs.Common.{append-nil, length-append, arith, ◌≡◌, refl, sym, ◌∙◌, ap, subst, ℕ, suc, ◌+◌, ◌≤◌, Bool, true, false, not, ◌||◌, ◌&&◌, cond, List, [], ◌∷◌, ◌++◌, length, Option, Some, None}
-use Rattle.std.specs.Prelude.{⊤, option_to_list}
+use Rattle.std.proofs.Common.{append-nil, length-append, arith, ◌≡◌, refl, sym, ◌∙◌, ap, subst, ℕ, ◌+◌, false, ◌&&◌, List, [], ◌∷◌, ◌++◌, length}
 use Rattle.std.specs.List.{AllByRecursion, AllZip, list_any}
 use Rattle.std.proofs.lemmas.List.{append_assoc}
 use Rattle.pg_model.specs.declared.script.Mode.{Mode}
@@ -8,10 +7,10 @@ use Rattle.pg_line.specs.declared.form.LineForm.{LineForm}
 use Rattle.pg_line.specs.Forms.{IsFormOf}
 use Rattle.pg_script.specs.declared.draft.Draft.{Draft}
 use Rattle.pg_script.specs.declared.fault.Reason.{Reason}
-use Rattle.pg_script.specs.Drafts.{AreTaken, IsAdded, IsDraftOf, IsTaken, early_reasons, empty_draft, first_of, is_other, with_names}
-use Rattle.pg_script.specs.Parts.{catalogue_of, lines_of, session_names, sessions_of, setup_rows_of}
+use Rattle.pg_script.specs.Drafts.{AreTaken, IsAdded, IsDraftOf, early_reasons, empty_draft, is_other}
+use Rattle.pg_script.specs.Parts.{catalogue_of, sessions_of}
 use Rattle.pg_script.specs.Reading.{AreFine}
-use Rattle.pg_script.specs.Reasons.{is_setup, reasons_of, setup_reasons}
+use Rattle.pg_script.specs.Reasons.{is_setup, setup_reasons}
 use Rattle.pg_script.proofs.Firsts.{left_none, not_told, right_none}
 use Rattle.pg_script.proofs.Held.{catalogue_more, others_more, sessions_more}
 use Rattle.pg_script.proofs.Settled.{Known, Settled, all_known_grow, all_settled_grow, settled_grows, tables_follow}

@@ -1,5 +1,5 @@
 -- The one table of what is left for later: lines of a form of the language that is not built, without a place fault.
-use Rattle.std.specs.Prelude.{ℕ, Bool, true, false, not, ◌||◌, ◌&&◌, nat_le, length, Result, Ok, Err}
+use Rattle.std.specs.Prelude.{Bool, false, not, ◌||◌, ◌&&◌, nat_le, length, Result, Ok, Err}
 use Rattle.pg_parse_stmt.specs.declared.tree.StmtTree.{StmtTree}
 use Rattle.pg_line.specs.declared.form.LineForm.{LineForm}
 use Rattle.pg_line.specs.declared.form.LineForm.TheVariants as form

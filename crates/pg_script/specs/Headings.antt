@@ -1,5 +1,5 @@
 -- The first line of a script.
-use Rattle.std.specs.Prelude.{ℕ, ◌&&◌, List, [], ◌∷◌, codes, map, Option, Some, None, if◌then◌else◌}
+use Rattle.std.specs.Prelude.{ℕ, ◌&&◌, List, [], ◌∷◌, codes, Option, Some, None, if◌then◌else◌}
 use Rattle.std.specs.Option.{option_map}
 use Rattle.pg_model.specs.declared.script.Mode.{Mode}
 use Rattle.pg_model.specs.declared.script.Mode.TheVariants as mode

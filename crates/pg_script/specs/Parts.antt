@@ -1,8 +1,7 @@
 -- What lines say together: the sessions in order of first appearance, the tables that they declare, and the rest of the
 -- script over these.
-use Rattle.std.specs.Prelude.{ℕ, suc, Bool, not, List, [], ◌∷◌, ◌++◌, filter, filter_map, flat_map, Option, Some, None, Result, Ok, Err, unwrap_or}
+use Rattle.std.specs.Prelude.{ℕ, suc, List, [], ◌∷◌, ◌++◌, filter_map, flat_map, Option, Some, None, Result, Ok, Err, unwrap_or}
 use Rattle.pg_names.specs.Names.{number_of}
-use Rattle.pg_parse_stmt.specs.declared.tree.StmtTree.{StmtTree}
 use Rattle.pg_model.specs.declared.catalogue.TableShape.{TableShape}
 use Rattle.pg_model.specs.declared.error.SqlError.{SqlError}
 use Rattle.pg_model.specs.declared.script.Content.TheVariants as content
@@ -12,7 +11,6 @@ use Rattle.pg_model.specs.declared.statement.Statement.{Statement}
 use Rattle.pg_model.specs.declared.statement.Statement.TheVariants as statement
 use Rattle.pg_line.specs.declared.form.LineForm.{LineForm}
 use Rattle.pg_line.specs.declared.form.LineForm.TheVariants as form
-use Rattle.pg_line.specs.declared.form.PlaceFault.{PlaceFault}
 use Rattle.pg_analyse.specs.declared.fault.AnalyseFault.{AnalyseFault}
 use Rattle.pg_analyse.specs.declared.fault.AnalyseFault.TheVariants as fault
 use Rattle.pg_analyse.specs.Analysis.{analysis, declaration}

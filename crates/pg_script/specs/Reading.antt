@@ -1,5 +1,5 @@
 -- The reading of a script: what its bytes say, or the first line that is refused and the first reason.
-use Rattle.std.specs.Prelude.{ℕ, ◌≡◌, ◌⊎◌, ◌<◌, ◌≤◌, ◌+◌, List, [], ◌∷◌, ◌++◌, length, Option, Some, None, Result, Ok, Err}
+use Rattle.std.specs.Prelude.{ℕ, ◌≡◌, ◌⊎◌, ◌<◌, ◌≤◌, ◌+◌, List, [], ◌∷◌, ◌++◌, length, Some, None, Result, Ok, Err}
 use Rattle.std.specs.List.{AllZip}
 use Rattle.pg_model.specs.declared.script.Mode.{Mode}
 use Rattle.pg_model.specs.declared.script.Script.{Script}

@@ -55,7 +55,7 @@ fn read_one(alloc: Global, draft: &mut Draft, line: &[u8]) -> Result<(), ScriptF
 }
 
 /// Reads the lines behind the first.
-#[tactic(auto, using(crate::proofs::Reached::reached_first, crate::proofs::Reached::reached_more, crate::proofs::Reached::reached_all, crate::proofs::Answering::next_number, crate::proofs::Answering::stopped_at))]
+#[tactic(auto, using(crate::proofs::Answering::lines_read))]
 fn read_lines(alloc: Global, draft: &mut Draft, text: Option<&[u8]>) -> Result<(), ScriptFault>
     requires within { bytes_behind (option_copied text) ≤ 1048576 }
     requires first { draft.old.number ≡ 2 }

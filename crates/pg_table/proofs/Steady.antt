@@ -1,5 +1,6 @@
 -- What a statement saw of a table stays, whatever other transactions do to it.
 use Rattle.std.proofs.Common.{◌≡◌, ◌<◌, ◌≤◌, ◌+◌, ◌-◌, ◌++◌, ◌⊎◌, inl, inr, ◌&&◌, ◌||◌, ℕ, zero, suc, Bool, true, false, cond, List, [], ◌∷◌, Option, Some, None, length, map, nat_eq, nat_lt, option_map, option_and_then, is_some, refl, ap, ap₂, sym, ◌∙◌, arith, length-append, eqb-true}
+use Rattle.std.proofs.Math.Bool.{and-false}
 use Rattle.std.specs.Prelude.{filter_map}
 use Rattle.std.specs.List.{cons_option}
 use Rattle.std.specs.Option.{option_map_or}
@@ -161,17 +162,13 @@ settling_kept transactions commits me state row from table unseen le = at row (w
             unseen_version transactions commits me w.stored.version.writer w.stored.version
             (unseen (record { row = suc i; me = record { session = w.placing.session; xact = w.stored.version.writer; command = w.stored.version.command }; values = is.0 }) is.1.1) refl
 
-        and_none : (b : Bool) → (b && false) ≡ false
-        and_none true = refl
-        and_none false = refl
-
         shown : (row m : ℕ) → (m ≡ number) ⊎ (m ≡ number → ⊥) → passes (is_shown transactions commits me row) more m ≡ passes (is_shown transactions commits me row) state.store.versions m
         shown row m (inl e) =
             rw e
             (ap (λ o. option_map_or (is_shown transactions commits me row) o false) (changed_here settled state.store.versions number ∙ ap (λ o. option_map settled o) w.is)
             ∙ (ap (λ b. is_version_of row (settled w.stored) && b) hidden
-            ∙ (and_none (is_version_of row (settled w.stored))
-            ∙ (sym (and_none (is_version_of row w.stored))
+            ∙ (and-false (is_version_of row (settled w.stored))
+            ∙ (sym (and-false (is_version_of row w.stored))
             ∙ (ap (λ b. is_version_of row w.stored && b) (sym hidden)
             ∙ sym (ap (λ o. option_map_or (is_shown transactions commits me row) o false) w.is))))))
         shown row m (inr apart) =
@@ -225,10 +222,6 @@ pub rollbacks_kept : (before after : Transactions) (commits : ℕ) (me : Me) (st
 rollbacks_kept before after commits me state xact from keep unseen le =
     mapped_kept (undone_version xact) (λ stored. refl) before after commits me state.store.versions from keep shown le
   where
-    and_none : (b : Bool) → (b && false) ≡ false
-    and_none true = refl
-    and_none false = refl
-
     shown : (row : ℕ) (stored : Stored) → is_shown before commits me row (undone_version xact stored) ≡ is_shown before commits me row stored
     shown row stored = at (is_written_by xact stored.version) refl
       where
@@ -236,4 +229,4 @@ rollbacks_kept before after commits me state xact from keep unseen le =
         at false by = rw by refl
         at true by =
             let hidden = unseen_version before commits me xact stored.version unseen (eqb-true stored.version.writer xact by) in
-            rw hidden (and_none (is_version_of row (undone_version xact stored)) ∙ sym (and_none (is_version_of row stored)))
+            rw hidden (and-false (is_version_of row (undone_version xact stored)) ∙ sym (and-false (is_version_of row stored)))

@@ -3,8 +3,7 @@ ghost use Rattle.pg_heap.specs.Pieces.{piece_from};
 ghost use Rattle.pg_heap.specs.Rows.{values_of};
 ghost use Rattle.pg_rows.specs.Scans.{seen_in_piece};
 ghost use Rattle.pg_rows.specs.Stores.{HasValues, current_number, newest_number, version_of};
-ghost use Rattle.pg_table.specs.States.{IsTable, empty_state, row_added_in, row_inserted_in, row_placed_in, state_ended, state_undone, table_shown, waiting_number};
-ghost use Rattle.pg_world.specs.Tables.{next_row};
+ghost use Rattle.pg_table.specs.States.{IsTable, empty_state, row_added_in, row_inserted_in, row_placed_in, state_ended, state_undone, waiting_number};
 ghost use Rattle.pg_xacts.specs.Snapshots.{WasTakenOf};
 
 use crate::Placing;
@@ -49,14 +48,6 @@ impl Table {
         ensures { result ≡ self.now.store.drawn }
     {
         self.rows.count()
-    }
-
-    /// The row number that is drawn next.
-    #[tactic(auto, using(pg_rows::proofs::Rows::length_rows))]
-    pub fn next_row(&self) -> u64
-        ensures { result ≡ next_row (table_shown self.now) }
-    {
-        self.placings.len() as u64 + 1
     }
 
     /// How many version numbers were drawn.

@@ -10,15 +10,15 @@ use pg_values::{Value, Values};
 use pg_xacts::{Me, XStatus, Xacts};
 use std::alloc::{AllocError, Global};
 
-/// The values of a row with one column.
-pub fn values(alloc: Global, number: i32) -> Result<Values, AllocError> {
+/// The values of a row with one column, of a number below 1000.
+pub fn values(alloc: Global, number: u32) -> Result<Values, AllocError> {
     let mut values = Items::new(alloc);
-    values.push(Value::Int(number))?;
+    values.push(Value::Int((number % 1000) as i32))?;
     Ok(values)
 }
 
 /// The number that is the only value of a row; 0 where there is no such value.
-pub fn number(values: &Values) -> i32 {
+fn number(values: &Values) -> i32 {
     match values.as_slice() {
         [Value::Int(number)] => *number,
         _ => 0,
@@ -26,7 +26,7 @@ pub fn number(values: &Values) -> i32 {
 }
 
 /// The number of a version's row; -1 where it says that the row is gone.
-pub fn number_in(version: &Version) -> i32 {
+fn number_in(version: &Version) -> i32 {
     match &version.values {
         Some(values) => number(values),
         None => -1,
@@ -74,6 +74,24 @@ pub fn roll_back(xacts: &mut Xacts, xact: u32) {
     }
 }
 
+/// Two transactions that run.
+pub fn two(alloc: Global) -> Result<Xacts, AllocError> {
+    let mut xacts = Xacts::new(alloc);
+    begin(&mut xacts)?;
+    begin(&mut xacts)?;
+    Ok(xacts)
+}
+
+/// The values of the committed rows.
+pub fn committed(alloc: Global, table: &Table, xacts: &Xacts) -> Result<Vec<i32>, AllocError> {
+    let rows = table.committed(alloc, xacts)?;
+    let mut committed = Vec::new(alloc);
+    for values in rows.as_slice() {
+        committed.push(number(values))?;
+    }
+    Ok(committed)
+}
+
 /// The current version of a row that was drawn.
 pub fn current(table: &Table, xacts: &Xacts, me: &Me, row: u64) -> Option<u64> {
     if row == 0 || row > table.rows_drawn() {
@@ -88,4 +106,40 @@ pub fn newest(table: &Table, row: u64) -> Option<u64> {
         return None;
     }
     table.newest(row)
+}
+
+/// Keeps what a statement sees of a piece, and answers the number behind it.
+fn keep_piece(
+    alloc: Global,
+    table: &Table,
+    xacts: &Xacts,
+    me: &Me,
+    from: u64,
+    seen: &mut Vec<(u64, i32)>,
+) -> Result<Option<u64>, AllocError> {
+    let snapshot = xacts.snapshot()?;
+    let scan = table.visible(alloc, xacts, &snapshot, me, from)?;
+    for version in scan.seen.as_slice() {
+        seen.push((version.row, number_in(&version.version)))?;
+    }
+    Ok(scan.next)
+}
+
+/// What a statement sees whose snapshot is taken now, piece by piece: the row number and the value
+/// of each row.
+pub fn seen(
+    alloc: Global,
+    table: &Table,
+    xacts: &Xacts,
+    me: Me,
+) -> Result<Vec<(u64, i32)>, AllocError> {
+    let mut seen = Vec::new(alloc);
+    let mut from = 1;
+    for _ in 0..=table.versions_drawn() {
+        match keep_piece(alloc, table, xacts, &me, from, &mut seen)? {
+            Some(next) => from = next,
+            None => break,
+        }
+    }
+    Ok(seen)
 }

@@ -6,4 +6,6 @@ mod helpers;
 #[cfg(test)]
 mod random;
 #[cfg(test)]
+mod sets;
+#[cfg(test)]
 mod tests;

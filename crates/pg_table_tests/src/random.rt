@@ -3,7 +3,7 @@
 //! What is placed draws one row number and one version number, so the two are the same here, and
 //! the place of each in the plain list is the number before it.
 
-use crate::helpers::{begin, commit, current, me, newest, number_in, roll_back, status, values};
+use crate::helpers::{begin, commit, current, me, newest, roll_back, seen, status, values};
 use pg_table::Table;
 use pg_xacts::{Me, XStatus, Xacts};
 use std::alloc::{AllocError, Global};
@@ -95,10 +95,10 @@ fn step(pair: &mut Pair, seed: u64, command: u32) -> Result<(), AllocError> {
     }
 }
 
-/// Places a row, where the transaction runs; its value is the number of the command.
+/// Places a row, where the transaction runs; its value is that of the command.
 fn place(pair: &mut Pair, me: Me) -> Result<(), AllocError> {
     if runs(&pair.xacts, me.xact) {
-        let row = values(pair.alloc, value_of(me))?;
+        let row = values(pair.alloc, me.command)?;
         pair.table.place(me, row)?;
         keep(pair, me, Fate::Waits)?;
     }
@@ -108,7 +108,7 @@ fn place(pair: &mut Pair, me: Me) -> Result<(), AllocError> {
 /// Places a row and stores it, where the transaction runs.
 fn add(pair: &mut Pair, me: Me) -> Result<(), AllocError> {
     if runs(&pair.xacts, me.xact) {
-        let row = values(pair.alloc, value_of(me))?;
+        let row = values(pair.alloc, me.command)?;
         pair.table.add(me, row)?;
         keep(pair, me, Fate::Stands)?;
     }
@@ -180,36 +180,6 @@ fn plain_seen(pair: &Pair, me: Me) -> Result<Vec<(u64, i32)>, AllocError> {
     Ok(seen)
 }
 
-/// Keeps what a statement sees of a piece, and answers the number behind it.
-fn keep_piece(
-    pair: &Pair,
-    me: Me,
-    from: u64,
-    seen: &mut Vec<(u64, i32)>,
-) -> Result<Option<u64>, AllocError> {
-    let snapshot = pair.xacts.snapshot()?;
-    let scan = pair
-        .table
-        .visible(pair.alloc, &pair.xacts, &snapshot, &me, from)?;
-    for version in scan.seen.as_slice() {
-        seen.push((version.row, number_in(&version.version)))?;
-    }
-    Ok(scan.next)
-}
-
-/// What a statement sees of the table, piece by piece.
-fn table_seen(pair: &Pair, me: Me) -> Result<Vec<(u64, i32)>, AllocError> {
-    let mut seen = Vec::new(pair.alloc);
-    let mut from = 1;
-    for _ in 0..=pair.plain.len() {
-        match keep_piece(pair, me, from, &mut seen)? {
-            Some(next) => from = next,
-            None => break,
-        }
-    }
-    Ok(seen)
-}
-
 /// Whether the newest and the current version of a row are those of the plain list.
 fn is_right(pair: &Pair, me: Me, row: u64, version: Plain) -> bool {
     let newest_is = newest(&pair.table, row) == Some(row);
@@ -243,7 +213,8 @@ fn difference(pair: &Pair, me: Me) -> Result<Option<&'static str>, AllocError> {
     if !are_right(pair, me) {
         return Ok(Some("the newest or the current version"));
     }
-    if table_seen(pair, me)?.as_slice() != plain_seen(pair, me)?.as_slice() {
+    let seen = seen(pair.alloc, &pair.table, &pair.xacts, me)?;
+    if seen.as_slice() != plain_seen(pair, me)?.as_slice() {
         return Ok(Some("the rows seen"));
     }
     Ok(None)

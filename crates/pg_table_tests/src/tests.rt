@@ -1,182 +1,186 @@
-use crate::helpers::{begin, commit, current, me, newest, number, number_in, values};
+//! Calls on a table, with what they answer, worked out by hand.
+use crate::helpers::{commit, committed, current, me, newest, seen, two, values};
 use crate::random::first_wrong_step;
-use pg_lists::Items;
-use pg_model::{Catalogue, TableShape};
-use pg_names::{Name, NamedItems};
-use pg_shared::Shared;
-use pg_table::*;
+use pg_table::Table;
 use pg_xacts::{Me, Xacts};
 use std::alloc::{AllocError, Global};
-use std::test::Fail;
 
-/// Two transactions that run.
-fn two(alloc: Global) -> Result<Xacts, AllocError> {
-    let mut xacts = Xacts::new(alloc);
-    begin(&mut xacts)?;
-    begin(&mut xacts)?;
-    Ok(xacts)
-}
+/// Cases, each a list of calls while two transactions run, with what they answer. `add`, `place`
+/// and `seen` name a transaction and its command, the first two a value too; `current` names a
+/// transaction and a row.
+const CASES: &str = "\
+add 0 0 10
+place 1 1 20 -> 2
+place 2 1 30 -> 3
+drawn -> 3
+settle 2
+seen 1 1 -> 1:10
+seen 1 2 -> 1:10 2:20
+seen 2 2 -> 1:10
+committed -> 10
+commit 1
+committed -> 10 20
+seen 2 2 -> 1:10 2:20
+place 2 2 40 -> 4
+drawn -> 4
 
-/// What a statement sees whose snapshot is taken now: the row number and the value of each row.
-fn seen(
+add 0 0 10
+place 1 1 20 -> 2
+newest 2 -> none
+settle 2
+newest 2 -> 2
+current 1 2 -> 2
+current 2 2 -> none
+commit 1
+current 2 2 -> 2
+
+add 0 0 10
+place 1 1 20 -> 2
+place 2 1 30 -> 3
+settle 2
+undo 1
+undo 2
+settle 3
+commit 2
+seen 1 2 -> 1:10
+committed -> 10";
+
+/// The transactions, and a table that they write.
+#[derive(Drop)]
+struct Case {
     alloc: Global,
-    table: &Table,
-    xacts: &Xacts,
-    me: Me,
-) -> Result<Vec<(u64, i32)>, AllocError> {
-    let snapshot = xacts.snapshot()?;
-    let rows = table.seen(alloc, xacts, &snapshot, me)?;
-    let mut seen = Vec::new(alloc);
-    for row in rows.as_slice() {
-        seen.push((row.row, number_in(&row.version)))?;
+    xacts: Xacts,
+    table: Table,
+}
+
+/// An empty table, while two transactions run.
+fn new_case(alloc: Global) -> Result<Case, AllocError> {
+    Ok(Case {
+        alloc,
+        xacts: two(alloc)?,
+        table: Table::new(alloc),
+    })
+}
+
+/// What stands before a sign, and what stands behind it.
+fn cut<'a>(text: &'a str, sign: &str) -> (&'a str, &'a str) {
+    text.split_once(sign).unwrap_or((text, ""))
+}
+
+/// The first of some numbers, 0 where there is none, and those behind it.
+fn first(numbers: &str) -> (u32, &str) {
+    let (number, others) = cut(numbers, " ");
+    (number.parse::<u32>().unwrap_or(0), others)
+}
+
+/// Appends a number that is answered.
+fn put(text: &mut String, alloc: Global, number: u64) -> Result<(), AllocError> {
+    text.push_str(format!(in alloc; " -> {number}")?.as_str())
+}
+
+/// Appends a number that may be none.
+fn put_found(text: &mut String, alloc: Global, found: Option<u64>) -> Result<(), AllocError> {
+    match found {
+        Some(number) => put(text, alloc, number),
+        None => text.push_str(" -> none"),
     }
-    Ok(seen)
 }
 
-/// The values of the committed rows.
-fn committed(alloc: Global, table: &Table, xacts: &Xacts) -> Result<Vec<i32>, AllocError> {
-    let rows = table.committed(alloc, xacts)?;
-    let mut committed = Vec::new(alloc);
-    for values in rows.as_slice() {
-        committed.push(number(values))?;
+/// Appends the row numbers and the values that a statement sees.
+fn put_seen(text: &mut String, case: &Case, me: Me) -> Result<(), AllocError> {
+    let rows = seen(case.alloc, &case.table, &case.xacts, me)?;
+    text.push_str(" ->")?;
+    for (row, value) in rows.iter() {
+        text.push_str(format!(in case.alloc; " {row}:{value}")?.as_str())?;
     }
-    Ok(committed)
+    Ok(())
 }
 
-/// A table with a row of setup, and a row that each of two transactions has placed.
-fn three(alloc: Global) -> Result<Table, AllocError> {
-    let mut table = Table::new(alloc);
-    table.add(me(0, 0), values(alloc, 10)?)?;
-    table.place(me(1, 1), values(alloc, 20)?)?;
-    table.place(me(2, 1), values(alloc, 30)?)?;
-    Ok(table)
+/// Appends the values of the committed rows.
+fn put_committed(text: &mut String, case: &Case) -> Result<(), AllocError> {
+    let values = committed(case.alloc, &case.table, &case.xacts)?;
+    text.push_str(" ->")?;
+    for value in values.iter() {
+        text.push_str(format!(in case.alloc; " {value}")?.as_str())?;
+    }
+    Ok(())
 }
 
-/// A catalogue of one table.
-fn catalogue(alloc: Global) -> Result<Catalogue, AllocError> {
-    let mut catalogue = NamedItems::new(alloc);
-    catalogue.push(TableShape {
-        name: Name::from_slice(alloc, b"t")?,
-        columns: Shared::new(alloc, NamedItems::new(alloc))?,
-        checks: Shared::new(alloc, Items::new(alloc))?,
-    })?;
-    Ok(catalogue)
+/// Lets a value wait, and appends the row number that it waits under.
+fn put_placed(text: &mut String, case: &mut Case, me: Me, value: u32) -> Result<(), AllocError> {
+    let row = case.table.place(me, values(case.alloc, value)?)?;
+    put(text, case.alloc, row)
+}
+
+/// A transaction commits.
+fn end(case: &mut Case, xact: u32) {
+    commit(&mut case.xacts, xact);
+    case.table.ended(xact);
+}
+
+/// Makes a call, and appends what it answers, if it does; an unknown one ends the test.
+fn put_answer(text: &mut String, case: &mut Case, call: &str) -> Result<(), AllocError> {
+    let (name, numbers) = cut(call, " ");
+    let (one, numbers) = first(numbers);
+    let (other, numbers) = first(numbers);
+    let (value, _) = first(numbers);
+    match name {
+        "add" => case.table.add(me(one, other), values(case.alloc, value)?)?,
+        "place" => put_placed(text, case, me(one, other), value)?,
+        "settle" => case.table.settle(u64::from(one)),
+        "undo" => case.table.undo(one),
+        "commit" => end(case, one),
+        "seen" => put_seen(text, case, me(one, other))?,
+        "committed" => put_committed(text, case)?,
+        "drawn" => put(text, case.alloc, case.table.rows_drawn())?,
+        "newest" => put_found(text, case.alloc, newest(&case.table, u64::from(one)))?,
+        "current" => put_current(text, case, one, u64::from(other))?,
+        _ => return Err(AllocError),
+    }
+    Ok(())
+}
+
+/// Appends the current version of a row for a transaction.
+fn put_current(text: &mut String, case: &Case, xact: u32, row: u64) -> Result<(), AllocError> {
+    let found = current(&case.table, &case.xacts, &me(xact, 1), row);
+    put_found(text, case.alloc, found)
+}
+
+/// The calls of a case, with what they answer.
+fn answers(alloc: Global, calls: &str) -> Result<String, AllocError> {
+    let mut case = new_case(alloc)?;
+    let mut text = String::new(alloc);
+    for line in calls.lines() {
+        let (call, _) = cut(line, " ->");
+        text.push_str(call)?;
+        put_answer(&mut text, &mut case, call)?;
+        text.push_str("\n")?;
+    }
+    Ok(text)
+}
+
+/// The first case whose calls are answered otherwise than it says, with what they answer.
+fn first_wrong(alloc: Global, cases: &str) -> Result<Option<String>, AllocError> {
+    for case in cases.split("\n\n") {
+        let got = answers(alloc, case)?;
+        if got.as_str().trim_end() != case {
+            return Ok(Some(got));
+        }
+    }
+    Ok(None)
 }
 
 #[test]
-fn a_stored_row_is_seen_by_its_own_and_then_by_all(rt: HostRuntime) -> Result<(), Fail> {
-    let alloc = rt.alloc();
-    let mut xacts = two(alloc)?;
-    let mut table = three(alloc)?;
-    let both = [(1, 10), (2, 20)];
-    table.settle(2);
-    assert_eq!(rt;
-        seen(alloc, &table, &xacts, me(1, 1))?.as_slice(),
-        [(1, 10)].as_slice()
-    );
-    assert_eq!(rt;
-        seen(alloc, &table, &xacts, me(1, 2))?.as_slice(),
-        both.as_slice()
-    );
-    assert_eq!(rt;
-        seen(alloc, &table, &xacts, me(2, 2))?.as_slice(),
-        [(1, 10)].as_slice()
-    );
-    commit(&mut xacts, 1);
-    table.ended(1);
-    assert_eq!(rt;
-        committed(alloc, &table, &xacts)?.as_slice(),
-        [10, 20].as_slice()
-    );
-    assert_eq!(rt;
-        seen(alloc, &table, &xacts, me(2, 2))?.as_slice(),
-        both.as_slice()
-    );
+fn calls_are_answered(rt: HostRuntime) -> Result<(), AllocError> {
+    assert_eq!(rt; first_wrong(rt.alloc(), CASES)?, None);
     Ok(())
 }
 
 #[test]
-fn each_row_draws_a_number(rt: HostRuntime) -> Result<(), Fail> {
+fn random_steps_agree_with_a_plain_list(rt: HostRuntime) -> Result<(), AllocError> {
     let alloc = rt.alloc();
-    let mut table = three(alloc)?;
-    assert_eq!(rt; table.rows_drawn(), 3);
-    assert_eq!(rt; table.next_row(), 4);
-    assert_eq!(rt; table.place(me(2, 2), values(alloc, 40)?)?, 4);
-    assert_eq!(rt; table.next_row(), 5);
-    Ok(())
-}
-
-#[test]
-fn a_stored_row_is_current_for_its_own_and_then_for_all(rt: HostRuntime) -> Result<(), Fail> {
-    let alloc = rt.alloc();
-    let mut xacts = two(alloc)?;
-    let mut table = three(alloc)?;
-    assert_eq!(rt; newest(&table, 2), None);
-    table.settle(2);
-    assert_eq!(rt; newest(&table, 2), Some(2));
-    assert_eq!(rt; current(&table, &xacts, &me(1, 1), 2), Some(2));
-    assert_eq!(rt; current(&table, &xacts, &me(2, 1), 2), None);
-    commit(&mut xacts, 1);
-    assert_eq!(rt; current(&table, &xacts, &me(2, 1), 2), Some(2));
-    Ok(())
-}
-
-#[test]
-fn a_rollback_takes_versions_and_placed_rows(rt: HostRuntime) -> Result<(), Fail> {
-    let alloc = rt.alloc();
-    let mut xacts = two(alloc)?;
-    let mut table = three(alloc)?;
-    table.settle(2);
-    table.undo(1);
-    table.undo(2);
-    table.settle(3);
-    commit(&mut xacts, 2);
-    assert_eq!(rt;
-        seen(alloc, &table, &xacts, me(1, 2))?.as_slice(),
-        [(1, 10)].as_slice()
-    );
-    assert_eq!(rt;
-        committed(alloc, &table, &xacts)?.as_slice(),
-        [10].as_slice()
-    );
-    Ok(())
-}
-
-#[test]
-fn a_transaction_ends_in_every_table(rt: HostRuntime) -> Result<(), Fail> {
-    let alloc = rt.alloc();
-    let mut xacts = two(alloc)?;
-    let mut tables = TableSet::new(alloc, &catalogue(alloc)?)?;
-    if let Some(table) = tables.get_mut(0) {
-        table.add(me(1, 1), values(alloc, 10)?)?;
-        table.add(me(2, 1), values(alloc, 20)?)?;
-        table.place(me(2, 1), values(alloc, 30)?)?;
+    for round in 1..=4 {
+        assert_eq!(rt; first_wrong_step(alloc, round, 600)?, None);
     }
-    if let Some(table) = tables.get_mut(0) {
-        table.settle(3);
-    }
-    tables.undo_all(1);
-    commit(&mut xacts, 2);
-    tables.ended_all(2);
-    for table in tables.as_slice() {
-        assert_eq!(rt; table.rows_drawn(), 3);
-        assert_eq!(rt;
-            committed(alloc, table, &xacts)?.as_slice(),
-            [20, 30].as_slice()
-        );
-    }
-    assert_eq!(rt; tables.len(), 1);
-    assert!(rt; tables.get(0).is_some());
-    assert!(rt; tables.get(1).is_none());
-    Ok(())
-}
-
-#[test]
-fn random_steps_agree_with_a_plain_list(rt: HostRuntime) -> Result<(), Fail> {
-    let alloc = rt.alloc();
-    assert_eq!(rt; first_wrong_step(alloc, 1, 600)?, None);
-    assert_eq!(rt; first_wrong_step(alloc, 2, 600)?, None);
-    assert_eq!(rt; first_wrong_step(alloc, 3, 600)?, None);
-    assert_eq!(rt; first_wrong_step(alloc, 4, 600)?, None);
     Ok(())
 }

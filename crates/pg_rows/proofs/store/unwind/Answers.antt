@@ -1,7 +1,7 @@
 use Rattle.std.proofs.Common.{ap, subst, sym, ◌∙◌}
 use Rattle.pg_rows.specs.Stores.{is_settled}
 use Rattle.pg_rows.proofs.Chains.{settled_state}
-use Rattle.pg_rows.proofs.Unwound.{IsUnwinding, unwinding_first, unwinding_within, unwound_less, unwound_settled, unwound_unsettled}
+use Rattle.pg_rows.proofs.Unwinding.{IsUnwinding, unwinding_first, unwinding_within, unwound_less, unwound_settled, unwound_unsettled}
 use Rattle.pg_rows.proofs.store.unwind.Goals as goal
 
 pub loop-next-init : goal.loop-next-init

@@ -1,6 +1,6 @@
 -- The newest versions leave out what the transaction wrote behind `next`, which it wrote too.
 use Rattle.std.proofs.Common.{unwrap_or}
-use Rattle.pg_rows.proofs.Unwound.{IsUnwinding}
+use Rattle.pg_rows.proofs.Unwinding.{IsUnwinding}
 use Rattle.pg_rows.proofs.store.unwind.Given as goal
 
 abbrev pub invariant-loop-next : goal.invariant-loop-next

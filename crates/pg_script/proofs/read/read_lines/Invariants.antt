@@ -1,5 +1,5 @@
 -- The lines so far were taken, and there are no more lines than bytes.
-use Rattle.std.proofs.Common.{◌≡◌, ◌≤◌, ◌+◌}
+use Rattle.std.proofs.Common.{◌≤◌, ◌+◌}
 use Rattle.std.specs.Option.{option_copied}
 use Rattle.pg_script.specs.Bytes.{bytes_behind, lines_behind}
 use Rattle.pg_script.specs.Drafts.{IsReadTo}

@@ -1,7 +1,7 @@
 use Rattle.std.proofs.Common.{ap, ap₂, List, ℕ, subst, sym, ◌∙◌}
 use Rattle.pg_rows.specs.Stores.{StandBehind, Stored, StoreView, store_without}
 use Rattle.pg_rows.specs.Kept.{stored_slots}
-use Rattle.pg_rows.proofs.Unwound.{chained_undone, stored_undone}
+use Rattle.pg_rows.proofs.Undone.{chained_undone, stored_undone}
 use Rattle.pg_rows.proofs.store.RowStore.undo.Goals as goal
 
 pub unwind-requires-clause-behind : goal.unwind-requires-clause-behind
