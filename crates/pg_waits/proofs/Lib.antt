@@ -1,0 +1,5 @@
+pub mod Lists
+pub mod Chains
+pub mod Rings
+pub mod Acyclic
+pub mod Ends
