@@ -13,10 +13,13 @@ use crate::schedule::{has_queued, ready_session, remaining_session, stands_close
 use crate::server::Server;
 use crate::setup::new_server;
 use crate::step::step_session;
-use pg_lists::{Items, TryCopy};
+use pg_lists::Items;
 use pg_model::{Entry, Finished, Script};
 use std::alloc::{AllocError, Global};
 use std::marker::Model;
+
+/// How many entries most lines have at most.
+const USUAL_ENTRIES: usize = 6;
 
 /// What a step of a session came to.
 #[derive(Clone, Copy, Debug, PartialEq, Eq)]
@@ -34,9 +37,9 @@ pub enum Step {
 
 /// All sessions of a script, with their journal so far and the world that it leaves.
 #[derive(Drop)]
-pub struct Board {
+pub struct Board<'a> {
     alloc: Global,
-    script: Script,
+    script: &'a Script,
     journal: Vec<Entry>,
     server: Server,
     queues: Items<Queue>,
@@ -44,7 +47,7 @@ pub struct Board {
     last: Option<u32>,
 }
 
-impl Model for Board {
+impl<'a> Model for Board<'a> {
     ghost use Rattle.std.specs.Coded.{codes};
     ghost use Rattle.pg_model.specs.contracts.script.Script as script_of;
     ghost use Rattle.std.specs.Prelude.{map};
@@ -58,31 +61,32 @@ impl Model for Board {
     ghost coded = { Prim.hlevel (codes, script_of.the_row.coded) };
 
     ghost view = { λ b. record {
-      script = b.script;
+      script = b.script.now;
       journal = b.journal.items;
-      world = world_after b.script b.journal.items;
+      world = world_after b.script.now b.journal.items;
       schedule = record { taken = b.taken; last = b.last };
       quiet = map (λ session. place_quiet b.server.tables session.place) b.server.sessions;
     } };
 
-    ghost invariant = { λ b. IsTied b.script b.journal.items b.server b.queues b.taken };
+    ghost invariant = { λ b. IsTied b.script.now b.journal.items b.server b.queues b.taken };
 }
 
-impl Board {
+impl<'a> Board<'a> {
     /// A board of the script: an empty journal, and the world after setup; or the first error that
     /// a setup INSERT raises.
-    pub fn new(alloc: Global, script: &Script) -> Result<Board, BoardFault>
+    pub fn new(alloc: Global, script: &'a Script) -> Result<Board<'a>, BoardFault>
         ensures first { IfOk result (λ board. board ≡ first_board script.now) }
         ensures set_up { OnOk result (IsSetUp script.now) }
         ensures fault { IfErr result (IsFaultOf script.now) }
     {
         let server = new_server(alloc, script)?;
         let queues = new_queues(alloc, script)?;
-        let script = script.try_copy(alloc)?;
+        let usual = script.lines.len().saturating_mul(USUAL_ENTRIES);
+        let journal = Vec::with_capacity(alloc, usual)?;
         Ok(Board {
             alloc,
             script,
-            journal: Vec::new(alloc),
+            journal,
             server,
             queues,
             taken: 0,
@@ -90,12 +94,12 @@ impl Board {
         })
     }
 
-    /// The script that the board keeps.
+    /// The script of the board.
     pub fn script(&self) -> &Script
         ensures script { result.now ≡ self.now.script }
         ensures set_up { IsSetUp self.now.script }
     {
-        &self.script
+        self.script
     }
 
     /// The entries so far, oldest first.
@@ -146,19 +150,18 @@ impl Board {
             (waits_for_lines self.new session ≡ false) × (has_ended self.new session ≡ false)) }
         ensures ended { (result ≡ None) ↔ AreClosed self.old.world }
     {
-        self.settle();
-        self.ready().or(remaining_session(&self.server))
+        self.settle().or(remaining_session(&self.server))
     }
 
     /// Ends a run in which every session is closed: its journal, and the committed rows of each
     /// table.
     ///
     /// For want of memory the board comes back as it was.
-    pub fn finish(self) -> Result<Finished, (Board, AllocError)>
+    pub fn finish(self) -> Result<Finished, (Board<'a>, AllocError)>
         requires { AreClosed self.world }
-        ensures journal { IfOk result (λ finished. finished.journal ≡ self.journal) }
-        ensures tables { IfOk result (λ finished. finished.tables ≡ tables_of self.world) }
-        ensures err { IfErr result (λ refused. refused.0 ≡ self) }
+        ensures journal { IfOk result (λ finished. finished.journal ≡ self.entry.journal) }
+        ensures tables { IfOk result (λ finished. finished.tables ≡ tables_of self.entry.world) }
+        ensures err { IfErr result (λ refused. refused.0 ≡ self.entry) }
     {
         match committed_tables(self.alloc, &self.server) {
             Ok(tables) => {
@@ -210,7 +213,7 @@ impl Board {
     {
         self.journal.reserve(1)?;
         let queues = self.queues.as_slice();
-        let acted = step_session(self.alloc, &self.script, queues, &mut self.server, number)?;
+        let acted = step_session(self.alloc, self.script, queues, &mut self.server, number)?;
         if let Some(act) = acted {
             self.journal.push_reserved(Entry {
                 session: number,
@@ -229,16 +232,21 @@ impl Board {
         ready_session(&self.server, self.queues.as_slice(), self.last)
     }
 
-    /// Takes lines until a session is ready or no line is left.
+    /// Takes lines until a session is ready or no line is left, and answers the session that is
+    /// then ready.
     #[tactic(auto, using(crate::proofs::Settling::settled_at_end, crate::proofs::Settling::settled_at_ready, crate::proofs::Settling::settled_on))]
-    fn settle(&mut self)
-        ensures { self.new ≡ record self.old {
+    fn settle(&mut self) -> Option<u32>
+        ensures schedule { self.new ≡ record self.old {
           schedule = settled_schedule self.old.script self.old.world self.old.schedule;
         } }
+        ensures session { result ≡ ready self.new.script self.new.world self.new.schedule }
     {
-        while self.has_untaken() && self.ready().is_none() {
+        let mut ready = self.ready();
+        while self.has_untaken() && ready.is_none() {
             self.take_line();
+            ready = self.ready();
         }
+        ready
     }
 
     /// Takes the next line of the script, which is then queued for its session.
@@ -247,7 +255,7 @@ impl Board {
         requires { self.old.schedule.taken < length self.old.script.lines }
         ensures { self.new ≡ record self.old { schedule = line_taken self.old.schedule } }
     {
-        let number = session_at(&self.script, self.taken);
+        let number = session_at(self.script, self.taken);
         enqueue(&mut self.queues, number);
         self.taken += 1;
     }

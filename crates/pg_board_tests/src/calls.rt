@@ -95,7 +95,7 @@ fn word(step: Step, has_entry: bool) -> Option<&'static str> {
 }
 
 /// One step of a session, where the script has one of that number.
-fn step_once(board: &mut Board, session: usize) -> Option<Step> {
+fn step_once(board: &mut Board<'_>, session: usize) -> Option<Step> {
     if session >= board.script().sessions.len() {
         return None;
     }
@@ -103,7 +103,7 @@ fn step_once(board: &mut Board, session: usize) -> Option<Step> {
 }
 
 /// What the steps of a session come to, up to its next entry; too many steps end the test.
-fn step(board: &mut Board, session: usize) -> Result<&'static str, AllocError> {
+fn step(board: &mut Board<'_>, session: usize) -> Result<&'static str, AllocError> {
     let before = board.journal().len();
     for _ in 0..10000 {
         let step = step_once(board, session).ok_or(AllocError)?;
@@ -120,7 +120,7 @@ fn name(script: &Script, session: u32) -> &[u8] {
 }
 
 /// Appends who moves next.
-fn put_next(text: &mut Vec<u8>, board: &mut Board) -> Result<(), AllocError> {
+fn put_next(text: &mut Vec<u8>, board: &mut Board<'_>) -> Result<(), AllocError> {
     match board.next() {
         Some(session) => text.extend_from_slice(name(board.script(), session)),
         None => text.extend_from_slice(b"nobody"),
@@ -129,7 +129,7 @@ fn put_next(text: &mut Vec<u8>, board: &mut Board) -> Result<(), AllocError> {
 
 /// Lets the session of that name step, and appends what it comes to; where there is none of that
 /// name, the test ends.
-fn put_step(text: &mut Vec<u8>, board: &mut Board, name: &str) -> Result<(), AllocError> {
+fn put_step(text: &mut Vec<u8>, board: &mut Board<'_>, name: &str) -> Result<(), AllocError> {
     let session = board
         .script()
         .sessions
@@ -139,7 +139,7 @@ fn put_step(text: &mut Vec<u8>, board: &mut Board, name: &str) -> Result<(), All
 }
 
 /// Makes the call of a line, and appends the line as the answer has it.
-fn put_call(text: &mut Vec<u8>, board: &mut Board, line: &str) -> Result<(), AllocError> {
+fn put_call(text: &mut Vec<u8>, board: &mut Board<'_>, line: &str) -> Result<(), AllocError> {
     let (call, _) = line.split_once(" ").ok_or(AllocError)?;
     text.extend_from_slice(call.as_bytes())?;
     text.push(b' ')?;
@@ -152,7 +152,7 @@ fn put_call(text: &mut Vec<u8>, board: &mut Board, line: &str) -> Result<(), All
 }
 
 /// The calls with what they answer, and behind them the journal.
-fn calls_text(alloc: Global, board: &mut Board, calls: &str) -> Result<Vec<u8>, AllocError> {
+fn calls_text(alloc: Global, board: &mut Board<'_>, calls: &str) -> Result<Vec<u8>, AllocError> {
     let mut text = Vec::new(alloc);
     for line in calls.lines() {
         put_call(&mut text, board, line)?;
@@ -163,12 +163,9 @@ fn calls_text(alloc: Global, board: &mut Board, calls: &str) -> Result<Vec<u8>, 
     Ok(text)
 }
 
-/// A board of the script that a case writes; an error of setup ends the test.
-fn board_of(alloc: Global, text: &str) -> Result<Board, AllocError> {
-    let script = read(alloc, text)?;
-    let board = Board::new(alloc, &script);
-    drop(script);
-    match board {
+/// A board of the script; an error of setup ends the test.
+fn board_of(alloc: Global, script: &Script) -> Result<Board<'_>, AllocError> {
+    match Board::new(alloc, script) {
         Ok(board) => Ok(board),
         Err(fault) => {
             drop(fault);
@@ -182,9 +179,11 @@ fn is_answered_otherwise(alloc: Global, case: &str) -> Result<Option<String>, Al
     let case = format!(in alloc; "{case}\n")?;
     let (text, wanted) = cut(case.as_str());
     let (calls, _) = cut(wanted);
-    let mut board = board_of(alloc, text)?;
+    let script = read(alloc, text)?;
+    let mut board = board_of(alloc, &script)?;
     let got = calls_text(alloc, &mut board, calls);
     drop(board);
+    drop(script);
     difference(alloc, wanted, got?.as_slice())
 }
 

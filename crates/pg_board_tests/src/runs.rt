@@ -220,7 +220,7 @@ setup: INSERT INTO t VALUES (1 / 0)
 line 3: 22012 division by zero";
 
 /// The sessions move in the stepped order until each has ended; too many steps end the test.
-fn run(board: &mut Board) -> Result<(), AllocError> {
+fn run(board: &mut Board<'_>) -> Result<(), AllocError> {
     for _ in 0..10000 {
         let Some(session) = board.next() else {
             return Ok(());
@@ -231,7 +231,7 @@ fn run(board: &mut Board) -> Result<(), AllocError> {
 }
 
 /// What a board leaves on which each session has ended; any other ends the test.
-fn finish(mut board: Board) -> Result<Finished, AllocError> {
+fn finish(mut board: Board<'_>) -> Result<Finished, AllocError> {
     if board.next().is_some() {
         drop(board);
         return Err(AllocError);

@@ -166,6 +166,14 @@ impl Keyword {
         }
     }
 
+    /// Whether the word is spelled so in lower case.
+    fn is_spelled(self, word: &[u8]) -> bool
+        ensures { result ≡ bytes_eq (spelling self) word.now }
+    {
+        let spelling = self.spelling();
+        spelling.len() == word.len() && spelling == word
+    }
+
     /// Whether the word may also be a name, except as an alias without AS.
     #[tactic(auto, unfolding(crate::specs::Keywords::may_be_name))]
     pub fn may_be_name(self) -> bool
@@ -279,7 +287,7 @@ fn find_word(words: &[Keyword], word: &[u8]) -> Option<Keyword>
     words
         .iter()
         .copied()
-        .find(|keyword| keyword.spelling() == word)
+        .find(|keyword| keyword.is_spelled(word))
 }
 
 /// The reserved word that is spelled so in lower case, if one is.

@@ -11,6 +11,9 @@ use crate::token::{BadPlace, Found, Spanned, Tokens};
 use crate::word::{begins_word, word_at};
 use std::alloc::{AllocError, Global};
 
+/// How many tokens most lines have at most.
+const USUAL_TOKENS: usize = 16;
+
 /// What a line holds from a place on, as far as it is read.
 #[derive(Debug, Drop)]
 pub struct Lexed {
@@ -81,7 +84,7 @@ pub fn read_front(alloc: Global, line: &[u8], from: u32) -> Result<Lexed, AllocE
     ensures few { IfOk result (λ lexed. length lexed.tokens ≤ length line.now) }
 {
     let end = line.len() as u32 + 1;
-    let mut tokens = Tokens::new(alloc);
+    let mut tokens = Tokens::with_room(alloc, USUAL_TOKENS)?;
     let mut rest = trimmed(&line[from as usize - 1..]);
     while !rest.is_empty() {
         let start = end - rest.len() as u32;

@@ -23,13 +23,6 @@ impl Model for NameText {
 }
 
 impl NameText {
-    pub(crate) fn new(bytes: Vec<u8>) -> NameText
-        requires { is_name bytes.items ≡ true }
-        ensures { result ≡ bytes.items }
-    {
-        NameText { bytes }
-    }
-
     /// A name of these bytes: 1 to 63 lower-case letters, digits and `_`, no digit first.
     pub fn from_slice(alloc: Global, bytes: &[u8]) -> Result<NameText, AllocError>
         requires { IsTrue (is_name bytes.now) }

@@ -1,4 +1,4 @@
-ghost use Rattle.std.specs.Prelude.{◌≡◌, ◌++◌, ◌∷◌, [], map, OnErr, OnOk};
+ghost use Rattle.std.specs.Prelude.{◌≡◌, ◌++◌, ◌∷◌, [], map, IfOk, OnErr, OnOk};
 ghost use Rattle.pg_lexer.specs.Spans.{span_of};
 
 use crate::keyword::Keyword;
@@ -72,13 +72,13 @@ impl Model for Tokens {
 }
 
 impl Tokens {
-    pub(crate) fn new(alloc: Global) -> Tokens
-        ensures { result ≡ [] }
+    /// No tokens, with room for so many.
+    pub(crate) fn with_room(alloc: Global, room: usize) -> Result<Tokens, AllocError>
+        ensures { IfOk result (λ tokens. tokens ≡ []) }
     {
-        Tokens {
-            tokens: Vec::new(alloc),
-            spans: Vec::new(alloc),
-        }
+        let tokens = Vec::with_capacity(alloc, room)?;
+        let spans = Vec::with_capacity(alloc, room)?;
+        Ok(Tokens { tokens, spans })
     }
 
     #[tactic(auto, using(crate::proofs::Spans::one_more))]

@@ -1,4 +1,5 @@
-ghost use Rattle.std.specs.Prelude.{◌≡◌, IfOk, true};
+ghost use Rattle.std.specs.Prelude.{◌≡◌, IfOk, length, map, true};
+ghost use Rattle.std.specs.Char.{to_ascii_lowercase};
 ghost use Rattle.std.specs.List.{prefix_len};
 ghost use Rattle.pg_lexer.specs.Bytes.{begins_word, in_word, is_name, Starts};
 ghost use Rattle.pg_lexer.specs.Found.{IsFound};
@@ -37,14 +38,23 @@ fn word_len(bytes: &[u8]) -> usize
     bytes.len()
 }
 
-/// The token that a folded word is.
-fn word_token(name: Vec<u8>) -> Token
-    requires { is_name name.items ≡ true }
-    ensures { result ≡ word_token name.items (keyword_of name.items) }
+/// Writes a word, folded to lower case, over as many bytes.
+fn fold(word: &[u8], name: &mut [u8])
+    requires { length name.old ≡ length word.now }
+    ensures { name.new ≡ map to_ascii_lowercase word.now }
 {
-    match keyword_of(name.as_slice()) {
-        Some(keyword) => Token::Keyword(keyword),
-        None => Token::Name(NameText::new(name)),
+    name.copy_from_slice(word);
+    name.make_ascii_lowercase();
+}
+
+/// The token that a folded word is.
+fn word_token(alloc: Global, name: &[u8]) -> Result<Token, AllocError>
+    requires { is_name name.now ≡ true }
+    ensures { IfOk result (λ token. token ≡ word_token name.now (keyword_of name.now)) }
+{
+    match keyword_of(name) {
+        Some(keyword) => Ok(Token::Keyword(keyword)),
+        None => Ok(Token::Name(NameText::from_slice(alloc, name)?)),
     }
 }
 
@@ -58,6 +68,9 @@ pub(crate) fn word_at(alloc: Global, bytes: &[u8], place: u32) -> Result<Found, 
         return Ok(Found::Bad(BadPlace::Name(place)));
     }
     let (word, _) = bytes.split_at(length);
-    let name = word.to_ascii_lowercase(alloc)?;
-    Ok(Found::Token(word_token(name), length))
+    let mut room = [0; MAX_NAME];
+    let (name, _) = room.split_at_mut(length);
+    fold(word, name);
+    let token = word_token(alloc, name)?;
+    Ok(Found::Token(token, length))
 }

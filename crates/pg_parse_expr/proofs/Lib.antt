@@ -7,6 +7,7 @@ pub mod Leaves
 pub mod Testing
 pub mod Factors
 pub mod Bracketing
+pub mod LoneLiterals
 pub mod Wholes
 pub mod Unambiguous
 pub mod Spelled

@@ -1,5 +1,5 @@
 -- Which next token may stand behind each part of an expression; None is the end.
-use Rattle.std.specs.Prelude.{Bool, true, false, not, ◌&&◌, Option, Some, None, is_some}
+use Rattle.std.specs.Prelude.{◌≡◌, ◌⊎◌, Bool, true, false, not, ◌&&◌, Option, Some, None, is_some}
 use Rattle.pg_lexer.specs.declared.keyword.Keyword.TheVariants as word
 use Rattle.pg_lexer.specs.declared.sign.Sign.TheVariants as sign
 use Rattle.pg_lexer.specs.declared.token.Token.{Token}
@@ -45,3 +45,7 @@ behind_conjunction t = behind_predicate t && not (has and_op t)
 -- behind an expression
 unfoldable pub behind_expr : Option Token → Bool
 behind_expr t = behind_conjunction t && not (has or_op t)
+
+-- a comma or a closing bracket comes next, which ends an item of a list
+abbrev pub EndsItem : Option Token → Type 0
+EndsItem t = (t ≡ Some (Sign sign.Comma)) ⊎ (t ≡ Some (Sign sign.Close))

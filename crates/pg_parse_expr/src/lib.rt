@@ -1,6 +1,7 @@
 //! Expressions from tokens: the tree, or the first bad place.
 #![tactic(auto)]
 
+mod alone;
 mod front;
 mod laws;
 mod leaf;

@@ -14,6 +14,7 @@ ghost use Rattle.pg_parse_expr.specs.Operators.{compare_op};
 ghost use Rattle.pg_parse_expr.specs.Rest.{distinct_operand, behind_factor_at, behind_product_at, behind_sum_at, behind_concatenation_at, behind_comparison_at, behind_predicate_at, behind_conjunction_at, closed as closed_rule};
 ghost use Rattle.pg_parse_expr.specs.Tree.{height, unary, binary};
 
+use crate::alone::lone_literal;
 use crate::front::{accept_sign, accept_word, comparison_sign, operator};
 use crate::leaf::leaf;
 use crate::level::Level;
@@ -30,12 +31,17 @@ type Read<'a> = Result<Part<'a, Token, ExprTree>, Fault>;
 
 /// An expression at the front.
 #[cycle(expr)]
-#[tactic(auto, using(crate::proofs::Bracketing::chain_or))]
+#[tactic(auto, using(crate::proofs::Bracketing::chain_or, crate::proofs::LoneLiterals::alone_read, crate::proofs::Leaves::literal_low, crate::proofs::Steps::reads_memory))]
 pub fn expr<'a>(alloc: Global, tokens: &'a [Token], depth: u32) -> Read<'a>
     requires { depth ≤ 64 }
     ensures reads { Reads (expr_at depth) (behind_expr) tokens.now (seen result) }
     ensures low { IfOk result (λ p. depth + height p.value ≤ 64) }
 {
+    if depth < MAX_DEPTH {
+        if let Some(whole) = lone_literal(alloc, tokens)? {
+            return Ok(whole);
+        }
+    }
     match chain(alloc, Level::Or, tokens, depth) {
         Ok(part) => Ok(part),
         Err(fault) => Err(fault),

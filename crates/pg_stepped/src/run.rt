@@ -33,9 +33,9 @@ pub fn replay(alloc: Global, script: &Script) -> Result<Finished, BoardFault>
 
 /// Makes one entry after the other, from the first on, until each session has ended.
 #[tactic(auto, using(crate::proofs::Replaying::on_way_first, crate::proofs::Replaying::on_way_more, crate::proofs::Replaying::turns_fall, crate::proofs::Replaying::on_way_end))]
-fn run_to_end(mut board: Board) -> Result<Finished, AllocError>
+fn run_to_end(mut board: Board<'_>) -> Result<Finished, AllocError>
     requires { board ≡ first_board board.script }
-    ensures { IfOk result (IsRun board.script) }
+    ensures { IfOk result (IsRun board.entry.script) }
 {
     while let Some(session) = board.next() {
         move_next(&mut board, session)?;
@@ -48,7 +48,7 @@ fn run_to_end(mut board: Board) -> Result<Finished, AllocError>
 
 /// Lets the session that moves next go on until it has made its move.
 #[tactic(auto, using(crate::proofs::Going::has_moved))]
-fn move_next(board: &mut Board, session: u32) -> Result<(), AllocError>
+fn move_next(board: &mut Board<'_>, session: u32) -> Result<(), AllocError>
     requires within { session < length board.old.script.sessions }
     requires served { waits_for_lines board.old session ≡ false }
     requires unended { has_ended board.old session ≡ false }
@@ -64,7 +64,7 @@ fn move_next(board: &mut Board, session: u32) -> Result<(), AllocError>
 }
 
 /// Lets the session make its next move, or come nearer to it.
-fn step_once(board: &mut Board, session: u32) -> Result<(), AllocError>
+fn step_once(board: &mut Board<'_>, session: u32) -> Result<(), AllocError>
     requires within { session < length board.old.script.sessions }
     requires served { waits_for_lines board.old session ≡ false }
     requires unended { has_ended board.old session ≡ false }

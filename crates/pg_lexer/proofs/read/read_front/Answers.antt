@@ -5,7 +5,7 @@ use Rattle.pg_lexer.proofs.read.read_front.Goals as goal
 
 pub loop-rest-init : goal.loop-rest-init
 loop-rest-init c =
-    rw c.new-tokens.ensures
+    rw c.in_ok-tokens.ensures
     (read_begins c.args.line.now c.args.from _ c.trimmed-rest.result.now c.requires.after_start c.requires.before_end refl
     (rw take_rest at c.trimmed-rest.ensures))
 

@@ -15,10 +15,10 @@ split_at-requires c = omega (arith, prefix_len-le-length in_word c.args.bytes.no
 pub word_token-requires : goal.word_token-requires
 word_token-requires c =
     name_is c.args.bytes.now c.word_len-length.result c.requires c.word_len-length.ensures c.if-length-gt-MAX_NAME.false _
-    (c.in_ok-name.ensures.ok ∙ ap (map to_ascii_lowercase) c.split_at.ensures.front)
+    (c.fold.ensures ∙ ap (map to_ascii_lowercase) c.split_at.ensures.front)
 
 pub returns : goal.returns
 returns c =
-    rw c.word_token.ensures
+    rw c.in_ok-token.ensures
     (word_found c.args.bytes.now c.args.place c.word_len-length.result c.requires c.word_len-length.ensures c.if-length-gt-MAX_NAME.false _
-    (c.in_ok-name.ensures.ok ∙ ap (map to_ascii_lowercase) c.split_at.ensures.front))
+    (c.fold.ensures ∙ ap (map to_ascii_lowercase) c.split_at.ensures.front))

@@ -11,10 +11,17 @@ use Rattle.pg_parse_expr.specs.Rest.{distinct_operand}
 use Rattle.pg_parse_expr.specs.Tree.{height, binary}
 use Rattle.pg_parse_expr.proofs.Bracketing.{chain_concat, chain_or, conjunction_at, closed_refused, closed_last, closed_turn, closed_failed}
 use Rattle.pg_parse_expr.proofs.Factors.{factor_deep}
+use Rattle.pg_parse_expr.proofs.Leaves.{literal_low}
 use Rattle.pg_parse_expr.proofs.Steps.{joined_reads, step_deep, step_failed, step_read, chain_turn, chain_turn_failed, chain_end, compare_deep, compare_failed, compare_read, comparison_failed, comparison_read}
 use Rattle.pg_parse_expr.proofs.Testing.{test_deep, test_not, tested_distinct, distinct_failed, distinct_read, tests_turn, tests_turn_failed, tests_end, negation_deep}
 use Rattle.pg_parse_expr.proofs.Weights.{opening_some}
 use Rattle.pg_parse_expr.proofs.parse.+expr.Goals as goal
+
+pub expr-returns-in-Some-clause-low : goal.expr-returns-in-Some-clause-low
+expr-returns-in-Some-clause-low t c =
+    let found = rw c.in-Some.is at c.in_ok-whole.ensures in
+    let one = literal_low c.args.tokens.now c.in-Some.whole.rest.now c.in-Some.whole.value found.0 in
+    omega (arith, one, c.if-depth-lt-MAX_DEPTH.true)
 
 pub expr-returns-in-Ok-clause-reads : goal.expr-returns-in-Ok-clause-reads
 expr-returns-in-Ok-clause-reads t c = chain_or c.args.depth c.args.tokens.now (read c.in-Ok.part.value c.in-Ok.part.rest.now) c.in-Ok.ensures.reads
