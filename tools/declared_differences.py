@@ -24,6 +24,8 @@ TITLES = {
     "marks": "Marks and words are cut as they can be read",
     "chains": "Tests with IS may follow each other",
     "names": "A server has names of its own",
+    "waits": "WHERE is evaluated for all rows before the first wait",
+    "queue": "Who waits for a row waits for who holds it",
     "order": "Rows come in the order of their numbers",
     "letters": "Texts are compared by their bytes",
 }
@@ -214,7 +216,8 @@ def known_by_answers(server, text, ours, theirs):
     """The name of the difference that the two answers tell by themselves, or None."""
     tests = [("long", is_long(ours)), ("conditions", is_of_conditions(ours, theirs)), ("nulls", theirs.state == "42725"),
              ("stored", is_of_stored_texts(server, text, ours, theirs)), ("errors", is_of_count(ours, theirs)),
-             ("chains", is_of_chains(text, theirs)), ("names", is_of_names(server, ours, theirs))]
+             ("chains", is_of_chains(text, theirs)), ("names", is_of_names(server, ours, theirs)),
+             ("waits", is_of_waits(ours, theirs)), ("queue", is_of_queue(ours, theirs))]
     return next((name for name, fits in tests if fits), None)
 
 
@@ -251,6 +254,22 @@ def is_of_names(server, ours, theirs):
     if ours.state == "42703" and named:
         return named[0] in SYSTEM_COLUMNS or named[0] in server.keywords or is_row(server, named[0])
     return ours.state == "42P01" and named and server.ask("SELECT to_regclass(%s)", [f"pg_catalog.{named[0]}"])[0][0]
+
+
+def waits_in(answer):
+    """The lines of an answer that tell for whom its statement has waited."""
+    return [row for row in answer.rows if row.startswith("(waits for ")]
+
+
+def is_of_waits(ours, theirs):
+    """Whether the program tells an error of an evaluation at once, and the server waits first."""
+    return (ours.state or "")[:2] == "22" and not waits_in(ours) and bool(waits_in(theirs))
+
+
+def is_of_queue(ours, theirs):
+    """Whether both wait and then answer the same, and only for whom they wait differs."""
+    rest = [sorted(set(answer.rows) - set(waits_in(answer))) for answer in (ours, theirs)]
+    return bool(waits_in(ours) and waits_in(theirs)) and (ours.state, ours.tag) == (theirs.state, theirs.tag) and rest[0] == rest[1]
 
 
 def is_row(server, name):

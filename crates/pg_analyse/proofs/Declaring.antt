@@ -1,13 +1,13 @@
 -- One part more of a CREATE TABLE.
-use Rattle.std.proofs.Common.{◌≡◌, refl, sym, ap, ◌∙◌, ◌⊎◌, inl, inr, ℕ, List, [], ◌∷◌, ◌++◌, map, append_assoc, subst}
+use Rattle.std.proofs.Common.{◌≡◌, sym, ap, ◌∙◌, ℕ, List, [], ◌∷◌, ◌++◌, append_assoc, subst}
 use Rattle.std.proofs.lemmas.List.{map-append}
 use Rattle.pg_model.specs.declared.catalogue.Column.{Column}
 use Rattle.pg_model.specs.declared.error.SqlError.{SqlError}
-use Rattle.pg_analyse.specs.declared.fault.AnalyseFault.{AnalyseFault}
-use Rattle.pg_analyse.specs.Causes.{Stops}
-use Rattle.pg_analyse.specs.Scope.{again_errors, column_names}
-use Rattle.pg_analyse.specs.Tables.{twice_errors}
-use Rattle.pg_analyse.proofs.Stopping.{stops_before}
+use Rattle.pg_resolve.specs.declared.fault.AnalyseFault.{AnalyseFault}
+use Rattle.pg_resolve.specs.Causes.{Stops}
+use Rattle.pg_resolve.specs.Scope.{column_names}
+use Rattle.pg_analyse.specs.Tables.{again_errors, twice_errors}
+use Rattle.pg_resolve.proofs.Stopping.{stops_before}
 
 -- a column whose name is new moves to the front ones
 pub step_errors : (before after : List Column) (column : Column) (rest : List (List ℕ)) →

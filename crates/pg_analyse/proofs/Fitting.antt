@@ -1,12 +1,11 @@
 -- A table that is declared fits behind those of its catalogue.
-use Rattle.std.proofs.Common.{◌≡◌, refl, sym, ap, ◌∙◌, subst, arith, ◌≤◌, ◌<◌, ℕ, zero, suc, Bool, true, false, true≢false, not, ◌&&◌, if◌then◌else◌, nat_le, nat_lt, List, [], ◌∷◌, ◌++◌, append_assoc, append-nil, length, map, Result, Ok, Err, ltb-true, le-leb}
+use Rattle.std.proofs.Common.{◌≡◌, refl, sym, ◌∙◌, subst, arith, ◌<◌, ℕ, suc, Bool, true, false, true≢false, not, ◌&&◌, if◌then◌else◌, nat_le, nat_lt, List, [], ◌∷◌, ◌++◌, append_assoc, append-nil, length, Ok, Err, ltb-true, le-leb}
 use Rattle.std.proofs.lemmas.List.{map-append, length-append}
 use Rattle.std.proofs.lemmas.List.Folds.{list_all-append}
 use Rattle.std.specs.List.{list_all}
 use Rattle.pg_names.specs.Names.{are_distinct, is_among}
 use Rattle.pg_names.proofs.Distinct.{distinct_snoc}
 use Rattle.pg_parse_stmt.specs.declared.tree.CreateTable.{CreateTable}
-use Rattle.pg_parse_stmt.specs.declared.tree.StmtTree.{StmtTree}
 use Rattle.pg_parse_stmt.specs.declared.tree.StmtTree.TheVariants as stmt
 use Rattle.pg_parse_stmt.specs.declared.tree.TablePart.{TablePart}
 use Rattle.pg_parse_stmt.specs.declared.tree.TablePart.TheVariants as part
@@ -16,17 +15,16 @@ use Rattle.pg_model.specs.declared.error.SqlError.{SqlError}
 use Rattle.pg_model.specs.declared.error.SqlError.TheVariants as error
 use Rattle.pg_model.specs.Limits.{is_written, most_columns, most_tables}
 use Rattle.pg_model.specs.Statements.{is_catalogue, is_column, is_shape}
-use Rattle.pg_analyse.specs.declared.fault.AnalyseFault.{AnalyseFault}
-use Rattle.pg_analyse.specs.declared.fault.AnalyseFault.TheVariants as fault
+use Rattle.pg_resolve.specs.declared.fault.AnalyseFault.TheVariants as fault
 use Rattle.pg_analyse.specs.Built.{is_built_part, is_empty}
-use Rattle.pg_analyse.specs.Causes.{by_phases, in_order}
+use Rattle.pg_resolve.specs.Causes.{by_phases, in_order}
 use Rattle.pg_analyse.specs.Laws.{DeclarationsFit}
 use Rattle.pg_parse_stmt.specs.Laws.{is_create_table}
 use Rattle.pg_analyse.proofs.Premises.{declaring, is_declaring}
 use Rattle.pg_analyse.specs.Queries.{table_names}
-use Rattle.pg_analyse.specs.Scope.{again_errors, column_names}
-use Rattle.pg_analyse.specs.Tables.{column_limit_errors, declared_columns, declared_table, table_limit_errors, table_phases, taken_errors, twice_errors}
-use Rattle.pg_analyse.proofs.Holding.{both, else_nil, err_ok, first_holds, left_holds, left_nil, no_error, right_holds, right_nil, second_holds, six, the_value, then_nil, third_holds, three}
+use Rattle.pg_resolve.specs.Scope.{column_names}
+use Rattle.pg_analyse.specs.Tables.{again_errors, column_limit_errors, declared_columns, declared_table, table_limit_errors, table_phases, taken_errors, twice_errors}
+use Rattle.pg_resolve.proofs.Holding.{both, else_nil, err_ok, first_holds, left_holds, left_nil, no_error, right_holds, right_nil, second_holds, six, the_value, then_nil, third_holds, three}
 
 -- names that are each new all differ
 twice_distinct : (before names : List (List ℕ)) → are_distinct before ≡ true → twice_errors before names ≡ [] →
@@ -60,16 +58,16 @@ room_more catalogue shape room =
     let below : length catalogue < most_tables = ltb-true (length catalogue) most_tables room in
     le-leb (length (catalogue ++ shape ∷ [])) most_tables (omega (arith, length-append catalogue (shape ∷ [])))
 
-first_none : (a b c d : List SqlError) → a ++ ((b ++ c) ++ (d ++ [])) ≡ [] → a ≡ []
+pub first_none : (a b c d : List SqlError) → a ++ ((b ++ c) ++ (d ++ [])) ≡ [] → a ≡ []
 first_none a b c d e = left_nil a ((b ++ c) ++ (d ++ [])) e
 
-second_none : (a b c d : List SqlError) → a ++ ((b ++ c) ++ (d ++ [])) ≡ [] → b ≡ []
+pub second_none : (a b c d : List SqlError) → a ++ ((b ++ c) ++ (d ++ [])) ≡ [] → b ≡ []
 second_none a b c d e = left_nil b c (left_nil (b ++ c) (d ++ []) (right_nil a ((b ++ c) ++ (d ++ [])) e))
 
-third_none : (a b c d : List SqlError) → a ++ ((b ++ c) ++ (d ++ [])) ≡ [] → c ≡ []
+pub third_none : (a b c d : List SqlError) → a ++ ((b ++ c) ++ (d ++ [])) ≡ [] → c ≡ []
 third_none a b c d e = right_nil b c (left_nil (b ++ c) (d ++ []) (right_nil a ((b ++ c) ++ (d ++ [])) e))
 
-fourth_none : (a b c d : List SqlError) → a ++ ((b ++ c) ++ (d ++ [])) ≡ [] → d ≡ []
+pub fourth_none : (a b c d : List SqlError) → a ++ ((b ++ c) ++ (d ++ [])) ≡ [] → d ≡ []
 fourth_none a b c d e = left_nil d [] (right_nil (b ++ c) (d ++ []) (right_nil a ((b ++ c) ++ (d ++ [])) e))
 
 -- the shape of a table with written names and no error

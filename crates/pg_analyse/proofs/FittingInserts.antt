@@ -1,5 +1,5 @@
 -- An INSERT without errors fits its catalogue.
-use Rattle.std.proofs.Common.{◌≡◌, refl, sym, ap, ◌∙◌, subst, arith, ◌+◌, ◌<◌, ◌≤◌, ◌==◌, ℕ, zero, suc, Bool, true, false, ◌&&◌, if◌then◌else◌, nat_lt, nat_le, List, [], ◌∷◌, ◌++◌, length, map, flat_map, filter_map, Option, Some, None, ltb-true, lt-ltb, eqb-true}
+use Rattle.std.proofs.Common.{◌≡◌, refl, ap, ◌∙◌, arith, ◌+◌, ◌≤◌, ℕ, suc, true, false, if◌then◌else◌, nat_lt, List, [], ◌∷◌, ◌++◌, length, map, flat_map, filter_map, Option, Some, None, ltb-true, lt-ltb, eqb-true}
 use Rattle.std.proofs.lemmas.Bool.{leb-true}
 use Rattle.std.specs.List.{cons_option, list_all}
 use Rattle.std.specs.Option.{option_map_or}
@@ -15,14 +15,14 @@ use Rattle.pg_model.specs.declared.error.SqlError.TheVariants as error
 use Rattle.pg_model.specs.declared.statement.NamedTable.{NamedTable}
 use Rattle.pg_model.specs.Kinds.{has_kind, is_stored, may_be_stored}
 use Rattle.pg_model.specs.Statements.{IsInsert, IsTableOf, is_row, is_value_of}
-use Rattle.pg_analyse.specs.Causes.{in_order}
+use Rattle.pg_resolve.specs.Causes.{in_order}
 use Rattle.pg_analyse.specs.Inserts.{count_errors, insert_phases, inserted_into, is_count, listed_errors, listing_errors, numbers_from, store_errors, target_columns, tuples_of, value_errors}
-use Rattle.pg_analyse.proofs.Premises.{is_low}
-use Rattle.pg_analyse.specs.Resolved.{expr_errors, kind_errors, kind_in, expr_of_tree}
-use Rattle.pg_analyse.specs.Scope.{again_errors, column_names}
-use Rattle.pg_analyse.proofs.FittingExprs.{expr_fits}
-use Rattle.pg_analyse.proofs.Holding.{both, else_nil, left_holds, left_nil, none_some, right_holds, right_nil}
-use Rattle.pg_analyse.proofs.Placing.{among_found, column_below, get_below}
+use Rattle.pg_resolve.specs.Resolved.{expr_errors, kind_errors, kind_in, expr_of_tree}
+use Rattle.pg_resolve.specs.Scope.{column_names}
+use Rattle.pg_analyse.specs.Tables.{again_errors}
+use Rattle.pg_resolve.proofs.FittingExprs.{expr_fits, is_low}
+use Rattle.pg_resolve.proofs.Holding.{both, else_nil, left_holds, left_nil, right_holds, right_nil}
+use Rattle.pg_resolve.proofs.Placing.{among_found, column_below, get_below}
 
 -- the numbers of all columns
 all_below : (n count : ℕ) (columns : List Column) → n + length columns ≡ count →

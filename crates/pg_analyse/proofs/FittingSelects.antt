@@ -1,12 +1,12 @@
 -- A SELECT without errors fits its catalogue.
-use Rattle.std.proofs.Common.{◌≡◌, refl, sym, ap, ap₂, ◌∙◌, subst, arith, ◌+◌, ◌<◌, ◌≤◌, ℕ, zero, suc, Bool, true, false, ◌&&◌, nat_lt, nat_le, List, [], ◌∷◌, ◌++◌, length, map, flat_map, filter_map, Option, Some, None, Result, Ok, lt-ltb, ltb-true, option_map, option_and_then, All}
+use Rattle.std.proofs.Common.{◌≡◌, refl, sym, ap, ◌∙◌, subst, arith, ◌+◌, ◌<◌, ℕ, suc, true, ◌&&◌, nat_lt, List, [], ◌∷◌, ◌++◌, length, map, flat_map, Option, Some, None, lt-ltb, ltb-true, option_map, option_and_then, All}
 use Rattle.std.proofs.lemmas.List.Elements.{All-nil, All-cons}
 use Rattle.std.proofs.lemmas.List.Folds.{list_all-append}
 use Rattle.std.specs.List.{cons_option, list_all}
 use Rattle.std.specs.Option.{option_map_or}
 use Rattle.pg_lists.specs.Numbered.{item_at}
 use Rattle.pg_values.specs.declared.value.Kind.{Kind}
-use Rattle.pg_exprs.specs.Tree.{Tree as Resolved, column as resolved_column}
+use Rattle.pg_exprs.specs.Tree.{column as resolved_column}
 use Rattle.pg_exprs.specs.Kinds.{is_boolean}
 use Rattle.pg_names.specs.Names.{is_among, number_of}
 use Rattle.pg_parse_expr.specs.Tree.{Tree}
@@ -22,15 +22,15 @@ use Rattle.pg_model.specs.declared.statement.Source.{Source}
 use Rattle.pg_model.specs.declared.statement.Source.TheVariants as source
 use Rattle.pg_model.specs.Kinds.{has_columns, has_kind, is_item, kinds_of}
 use Rattle.pg_model.specs.Statements.{IsSelect, IsSource, IsTableOf, is_where, source_kinds}
-use Rattle.pg_analyse.specs.declared.scope.Known.{Known}
-use Rattle.pg_analyse.specs.Causes.{in_order}
+use Rattle.pg_resolve.specs.declared.scope.Known.{Known}
+use Rattle.pg_resolve.specs.Causes.{in_order}
 use Rattle.pg_analyse.proofs.Premises.{is_low_condition, is_low_item}
 use Rattle.pg_analyse.specs.Queries.{alias_errors, all_columns_from, columns_from, columns_of_source, existence_errors, item_errors, item_exprs, known_name, part_errors, reference_errors, relation_errors, scope_of, select_phases, select_of_tree, sources_of, table_named, table_names, tables_in, where_errors}
-use Rattle.pg_analyse.specs.Resolved.{expr_errors, kind_errors, kind_in, expr_of_tree}
-use Rattle.pg_analyse.specs.Scope.{scope_kinds, source_named}
-use Rattle.pg_analyse.proofs.FittingExprs.{expr_fits, kind_exists}
-use Rattle.pg_analyse.proofs.Holding.{both, else_nil, left_holds, left_nil, none_some, right_holds, right_nil, some_same}
-use Rattle.pg_analyse.proofs.Placing.{Follows, among_found, follows_all, follows_first, follows_next, get_below, has_known, length_of_map, number_below}
+use Rattle.pg_resolve.specs.Resolved.{expr_errors, kind_errors, kind_in, expr_of_tree}
+use Rattle.pg_resolve.specs.Scope.{scope_kinds, source_named}
+use Rattle.pg_resolve.proofs.FittingExprs.{expr_fits, kind_exists}
+use Rattle.pg_resolve.proofs.Holding.{both, else_nil, left_holds, left_nil, none_some, right_holds, right_nil, some_same}
+use Rattle.pg_resolve.proofs.Placing.{Follows, among_found, follows_all, follows_first, follows_next, get_below, has_known, length_of_map, number_below}
 
 -- a table with its number
 abbrev with_shape : ℕ → TableShape → NamedTable
@@ -175,7 +175,7 @@ items_fit scope (given ∷ items) low none =
     (items_fit scope items (right_holds (is_low_item given) (list_all is_low_item items) low)
     (right_nil (item_errors scope given) (flat_map (item_errors scope) items) none))
 
-where_fits : (scope : List Known) (condition : Option Tree) → is_low_condition condition ≡ true →
+pub where_fits : (scope : List Known) (condition : Option Tree) → is_low_condition condition ≡ true →
     where_errors scope condition ≡ [] → is_where (scope_kinds scope) (option_map (expr_of_tree scope) condition) ≡ true
 where_fits scope None low none = refl
 where_fits scope (Some tree) low none =

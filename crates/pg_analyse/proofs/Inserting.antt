@@ -3,10 +3,10 @@ use Rattle.std.proofs.Common.{◌≡◌, List, [], flat_map}
 use Rattle.std.specs.Prelude.{IfErr, IsErrAnd, Result}
 use Rattle.pg_parse_stmt.specs.declared.tree.Insert.{Insert as InsertTree}
 use Rattle.pg_model.specs.declared.catalogue.Column.{Column}
-use Rattle.pg_analyse.specs.declared.fault.AnalyseFault.{AnalyseFault}
-use Rattle.pg_analyse.specs.Causes.{Stops, in_order}
+use Rattle.pg_resolve.specs.declared.fault.AnalyseFault.{AnalyseFault}
+use Rattle.pg_resolve.specs.Causes.{Stops, in_order}
 use Rattle.pg_analyse.specs.Inserts.{count_errors, insert_phases, listed_errors, row_phases, target_columns, tuples_of}
-use Rattle.pg_analyse.proofs.Stopping.{passed_up, stops_behind}
+use Rattle.pg_resolve.proofs.Stopping.{passed_up, stops_behind}
 
 pub insert_stops : {V : Type 0} (insert : InsertTree) (columns : List Column) (fault : AnalyseFault)
     (result : Result V AnalyseFault) → listed_errors columns [] insert.columns ≡ [] →

@@ -1,12 +1,12 @@
 -- One name more of a list of columns.
-use Rattle.std.proofs.Common.{◌≡◌, refl, sym, ap, ◌∙◌, List, ℕ, [], ◌∷◌, ◌++◌, append_assoc, subst, Option, Some, None}
+use Rattle.std.proofs.Common.{◌≡◌, sym, ap, ◌∙◌, List, ℕ, [], ◌∷◌, ◌++◌, append_assoc, subst, Option, Some}
 use Rattle.std.specs.List.{filter_map}
 use Rattle.pg_model.specs.declared.catalogue.Column.{Column}
 use Rattle.pg_model.specs.declared.error.SqlError.{SqlError}
-use Rattle.pg_analyse.specs.declared.fault.AnalyseFault.{AnalyseFault}
-use Rattle.pg_analyse.specs.Causes.{Stops}
+use Rattle.pg_resolve.specs.declared.fault.AnalyseFault.{AnalyseFault}
+use Rattle.pg_resolve.specs.Causes.{Stops}
 use Rattle.pg_analyse.specs.Inserts.{listed_errors, listing_errors}
-use Rattle.pg_analyse.proofs.Stopping.{stops_before}
+use Rattle.pg_resolve.proofs.Stopping.{stops_before}
 
 found_first : (f : List ℕ → Option ℕ) (name : List ℕ) (rest : List (List ℕ)) (number : ℕ) → f name ≡ Some number →
     number ∷ filter_map f rest ≡ filter_map f (name ∷ rest)

@@ -1,9 +1,9 @@
 -- What the errors of a statement answer.
-use Rattle.std.proofs.Common.{◌≡◌, ◌≢◌, refl, sym, ap, ◌∙◌, ◌⊎◌, inl, inr, List, [], ◌∷◌, ◌++◌, Some, None, Ok, Err}
+use Rattle.std.proofs.Common.{◌≡◌, ◌≢◌, refl, ap, inl, inr, List, [], ◌∷◌, Some, None, Ok, Err}
 use Rattle.pg_model.specs.declared.error.SqlError.{SqlError}
-use Rattle.pg_analyse.specs.declared.fault.AnalyseFault.{AnalyseFault}
-use Rattle.pg_analyse.specs.declared.fault.AnalyseFault.TheVariants.{Memory, Error}
-use Rattle.pg_analyse.specs.Causes.{Stops, first_fault, unless_error}
+use Rattle.pg_resolve.specs.declared.fault.AnalyseFault.{AnalyseFault}
+use Rattle.pg_resolve.specs.declared.fault.AnalyseFault.TheVariants.{Memory, Error}
+use Rattle.pg_resolve.specs.Causes.{Stops, unless_error}
 
 none_some : {X : Type 0} {x : X} → None ≡ Some x → ⊥
 none_some e = absurd (cc)

@@ -6,8 +6,10 @@ use Rattle.pg_lexer.specs.Bytes.{is_name}
 use Rattle.pg_lexer.specs.Keywords.{keyword_of}
 use Rattle.pg_parse_expr.specs.Laws.{is_free, is_free_name, is_written as is_spelled}
 use Rattle.pg_parse_expr.specs.Tree.{Tree, height}
-use Rattle.pg_parse_stmt.specs.Laws.{are_proposed_rows, are_sources, is_conflict, is_column_rule, is_create_table, is_expr, is_insert, is_item, is_limit, is_locking, is_order_key, is_part, is_select, is_statement, none_or, some_and_all}
+use Rattle.pg_parse_stmt.specs.Laws.{are_proposed_rows, are_sets, are_sources, is_assignment, is_conflict, is_column_rule, is_create_table, is_delete, is_expr, is_insert, is_item, is_limit, is_locking, is_order_key, is_part, is_select, is_statement, is_table, is_update, none_or, some_and_all, sources_or_none}
+use Rattle.pg_parse_stmt.specs.declared.tree.Assignment.{Assignment}
 use Rattle.pg_parse_stmt.specs.declared.tree.CreateTable.{CreateTable}
+use Rattle.pg_parse_stmt.specs.declared.tree.Delete.{Delete}
 use Rattle.pg_parse_stmt.specs.declared.tree.Insert.{Insert}
 use Rattle.pg_parse_stmt.specs.declared.tree.Item.{Item}
 use Rattle.pg_parse_stmt.specs.declared.tree.Item.TheVariants as item
@@ -18,13 +20,15 @@ use Rattle.pg_parse_stmt.specs.declared.tree.StmtTree.{StmtTree}
 use Rattle.pg_parse_stmt.specs.declared.tree.StmtTree.TheVariants as stmt
 use Rattle.pg_parse_stmt.specs.declared.tree.TablePart.{TablePart}
 use Rattle.pg_parse_stmt.specs.declared.tree.TablePart.TheVariants as part
-use Rattle.pg_model.specs.Limits.{is_written, most_nodes}
+use Rattle.pg_parse_stmt.specs.declared.tree.Update.{Update}
+use Rattle.pg_model.specs.Limits.{is_written}
 use Rattle.pg_analyse.specs.Built.{is_built_part, is_empty}
 use Rattle.pg_analyse.specs.Inserts.{tuples_of}
-use Rattle.pg_analyse.specs.Scope.{column_names}
+use Rattle.pg_resolve.specs.Scope.{column_names}
 use Rattle.pg_analyse.specs.Tables.{declared_columns}
-use Rattle.pg_analyse.proofs.Holding.{both, left_holds, right_holds, third_holds, three}
-use Rattle.pg_analyse.proofs.Written.{written_is_name}
+use Rattle.pg_resolve.proofs.FittingExprs.{is_low}
+use Rattle.pg_resolve.proofs.Holding.{both, left_holds, right_holds, second_holds, third_holds, three}
+use Rattle.pg_resolve.proofs.Written.{written_is_name}
 
 -- a CREATE TABLE whose names are written, and which has a column
 abbrev pub is_declaring : StmtTree → Bool
@@ -32,10 +36,6 @@ is_declaring (stmt.CreateTable table) =
     is_written table.name && not (is_empty (declared_columns table.parts))
     && list_all is_written (column_names (declared_columns table.parts))
 is_declaring _ = false
-
--- an expression within the limit of nodes on a path
-abbrev pub is_low : Tree → Bool
-is_low tree = nat_le (height tree) most_nodes
 
 abbrev pub is_low_item : Item → Bool
 is_low_item item.All = true
@@ -46,10 +46,15 @@ abbrev pub is_low_condition : Option Tree → Bool
 is_low_condition None = true
 is_low_condition (Some tree) = is_low tree
 
+abbrev pub is_low_set : Assignment → Bool
+is_low_set set = is_low set.value
+
 -- the expressions of the statement keep the limit
 abbrev pub is_low_statement : StmtTree → Bool
 is_low_statement (stmt.Select select) = list_all is_low_item select.items && is_low_condition select.condition
 is_low_statement (stmt.Insert insert) = list_all (list_all is_low) (tuples_of insert.rows)
+is_low_statement (stmt.Update update) = list_all is_low_set update.sets && is_low_condition update.condition
+is_low_statement (stmt.Delete delete) = is_low_condition delete.condition
 is_low_statement _ = true
 
 -- a name of the language is written
@@ -157,6 +162,33 @@ low_insert insert within =
     (is_free_name insert.table && none_or is_free_name insert.alias && list_all is_free_name insert.columns)
     (are_proposed_rows insert.rows) four)
 
+low_set : (set : Assignment) → is_assignment set ≡ true → is_low_set set ≡ true
+low_set set within = low set.value (right_holds (is_free_name set.column) (is_expr set.value) within)
+
+low_update : (update : Update) → is_update update ≡ true → is_low_statement (stmt.Update update) ≡ true
+low_update update within =
+    let four =
+    left_holds
+    (is_table update.target && are_sets update.sets && sources_or_none update.from && none_or is_expr update.condition)
+    (list_all is_item update.returning) within in
+    let sets =
+    second_holds (is_table update.target) (are_sets update.sets) (sources_or_none update.from)
+    (left_holds (is_table update.target && are_sets update.sets && sources_or_none update.from)
+    (none_or is_expr update.condition) four) in
+    let condition =
+    right_holds (is_table update.target && are_sets update.sets && sources_or_none update.from)
+    (none_or is_expr update.condition) four in
+    both (list_all is_low_set update.sets) (is_low_condition update.condition)
+    (weaker is_assignment is_low_set low_set update.sets (of_some is_assignment update.sets sets))
+    (low_condition update.condition condition)
+
+low_delete : (delete : Delete) → is_delete delete ≡ true → is_low_statement (stmt.Delete delete) ≡ true
+low_delete delete within =
+    low_condition delete.condition
+    (third_holds (is_table delete.target) (sources_or_none delete.using) (none_or is_expr delete.condition)
+    (left_holds (is_table delete.target && sources_or_none delete.using && none_or is_expr delete.condition)
+    (list_all is_item delete.returning) within))
+
 -- the expressions of a statement of the language keep the limit
 pub low_statement : (tree : StmtTree) → is_statement tree ≡ true → is_low_statement tree ≡ true
 low_statement stmt.Begin within = refl
@@ -164,8 +196,8 @@ low_statement stmt.Commit within = refl
 low_statement stmt.Rollback within = refl
 low_statement (stmt.Select select) within = low_select select within
 low_statement (stmt.Insert insert) within = low_insert insert within
-low_statement (stmt.Update update) within = refl
-low_statement (stmt.Delete delete) within = refl
+low_statement (stmt.Update update) within = low_update update within
+low_statement (stmt.Delete delete) within = low_delete delete within
 low_statement (stmt.Merge merge) within = refl
 low_statement (stmt.CreateTable table) within = refl
 low_statement (stmt.CreateIndex index) within = refl

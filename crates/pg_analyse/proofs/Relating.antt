@@ -1,22 +1,21 @@
 -- One table more of a FROM list.
-use Rattle.std.proofs.Common.{filter_map, ◌≡◌, refl, sym, ap, ◌∙◌, List, ℕ, [], ◌∷◌, ◌++◌, map, append_assoc, subst, Option, Some, None}
+use Rattle.std.proofs.Common.{◌≡◌, sym, ap, ◌∙◌, List, ℕ, [], ◌∷◌, ◌++◌, append_assoc, subst, Option}
 use Rattle.std.proofs.lemmas.List.{map-append}
 use Rattle.std.proofs.lemmas.List.Elements.{filter_map-append}
 use Rattle.std.specs.Option.{option_map}
-use Rattle.std.specs.Prelude.{IfErr, IsErrAnd, Result, Ok, Err}
+use Rattle.std.specs.Prelude.{IfErr, IsErrAnd, Result}
 use Rattle.pg_model.specs.declared.catalogue.TableShape.{TableShape}
 use Rattle.pg_model.specs.declared.error.SqlError.{SqlError}
-use Rattle.pg_model.specs.declared.statement.NamedTable.{NamedTable}
 use Rattle.pg_model.specs.declared.statement.Source.{Source}
 use Rattle.pg_model.specs.declared.statement.Source.TheVariants as source
 use Rattle.pg_parse_stmt.specs.declared.tree.TableRef.{TableRef}
-use Rattle.pg_analyse.specs.declared.fault.AnalyseFault.{AnalyseFault}
-use Rattle.pg_analyse.specs.declared.scope.Known.{Known}
+use Rattle.pg_resolve.specs.declared.fault.AnalyseFault.{AnalyseFault}
+use Rattle.pg_resolve.specs.declared.scope.Known.{Known}
 use Rattle.pg_parse_stmt.specs.declared.tree.Select.{Select as SelectTree}
-use Rattle.pg_analyse.specs.Causes.{Stops, in_order}
+use Rattle.pg_resolve.specs.Causes.{Stops, in_order}
 use Rattle.pg_analyse.specs.Queries.{known_as, known_name, part_errors, reference_errors, relation_errors, scope_of, select_phases, sources_of, table_named, tables_in}
-use Rattle.pg_analyse.specs.Scope.{source_names}
-use Rattle.pg_analyse.proofs.Stopping.{passed_up, stops_before, stops_behind}
+use Rattle.pg_resolve.specs.Scope.{source_names}
+use Rattle.pg_resolve.proofs.Stopping.{passed_up, stops_before, stops_behind}
 
 pub step_scope : (catalogue : List TableShape) (before after : List Known) (table : TableRef) (rest : List TableRef) →
     after ≡ before ++ known_as catalogue table ∷ [] →

@@ -1,5 +1,5 @@
 -- Values that are to be stored.
-use Rattle.std.proofs.Common.{◌≡◌, refl, sym, ap, ◌∙◌, ◌⊎◌, inl, inr, ◌+◌, ◌<◌, ◌≤◌, arith, add-one, append_assoc, ℕ, zero, suc, Bool, true, false, true≢false, not, ◌&&◌, if◌then◌else◌, length, List, [], ◌∷◌, ◌++◌, drop, flat_map, map, slice_index_or, Option, Some, None, Ok, subst}
+use Rattle.std.proofs.Common.{◌≡◌, refl, sym, ap, ◌∙◌, ◌⊎◌, inl, inr, ◌+◌, ◌<◌, ◌≤◌, add-one, append_assoc, ℕ, zero, suc, Bool, true, false, true≢false, ◌&&◌, if◌then◌else◌, length, List, [], ◌∷◌, ◌++◌, drop, flat_map, map, slice_index_or, Option, Some, None, Ok}
 use Rattle.std.proofs.lemmas.List.{at_drop_all, drop_more}
 use Rattle.std.specs.Option.{option_map_or}
 use Rattle.pg_values.specs.declared.value.Kind.{Kind}
@@ -9,27 +9,27 @@ use Rattle.pg_model.specs.declared.error.SqlError.{SqlError}
 use Rattle.pg_model.specs.declared.error.SqlError.TheVariants.{WrongKind}
 use Rattle.pg_model.specs.Kinds.{has_kind, may_be_stored}
 use Rattle.pg_model.specs.Statements.{column_kind}
-use Rattle.pg_analyse.specs.declared.fault.AnalyseFault.TheVariants.{Error}
+use Rattle.pg_resolve.specs.declared.fault.AnalyseFault.TheVariants.{Error}
 use Rattle.pg_analyse.specs.Built.{is_empty}
 use Rattle.pg_exprs.specs.Tree.{Tree as Resolved}
-use Rattle.pg_analyse.specs.Causes.{Stops, first_fault}
+use Rattle.pg_resolve.specs.Causes.{Stops, first_fault}
 use Rattle.pg_analyse.specs.Inserts.{fits_at, store_errors, value_errors}
-use Rattle.pg_analyse.specs.Resolved.{expr_errors, kind_errors, kind_in, expr_of_tree}
-use Rattle.pg_analyse.proofs.Stopping.{stops_before, stops_behind}
+use Rattle.pg_resolve.specs.Resolved.{expr_errors, kind_errors, kind_in, expr_of_tree}
+use Rattle.pg_resolve.proofs.Stopping.{stops_before, stops_behind}
 
 cons_nil : {X : Type 0} {x : X} {xs : List X} → x ∷ xs ≡ [] → ⊥
 cons_nil e = absurd (cc)
 
 -- the errors have none but of kinds
-abbrev Wrong : List SqlError → Type 0
+abbrev pub Wrong : List SqlError → Type 0
 Wrong errors = (errors ≡ []) ⊎ (first_fault errors ≡ Some (Error WrongKind))
 
-wrong_append : (a b : List SqlError) → Wrong a → Wrong b → Wrong (a ++ b)
+pub wrong_append : (a b : List SqlError) → Wrong a → Wrong b → Wrong (a ++ b)
 wrong_append [] b wa wb = wb
 wrong_append (x ∷ a) b (inl e) wb = absurd (cons_nil e)
 wrong_append (x ∷ a) b (inr e) wb = inr e
 
-wrong_test : (b : Bool) → Wrong (if b then [] else WrongKind ∷ [])
+pub wrong_test : (b : Bool) → Wrong (if b then [] else WrongKind ∷ [])
 wrong_test true = inl refl
 wrong_test false = inr refl
 
@@ -55,7 +55,7 @@ wrong_rows columns numbers (row ∷ rows) =
     wrong_append (store_errors columns numbers row) (flat_map (store_errors columns numbers) rows)
     (wrong_row columns numbers row) (wrong_rows columns numbers rows)
 
-first_wrong : (errors : List SqlError) → Wrong errors → is_empty errors ≡ false →
+pub first_wrong : (errors : List SqlError) → Wrong errors → is_empty errors ≡ false →
     first_fault errors ≡ Some (Error WrongKind)
 first_wrong [] wrong some = absurd (true≢false some)
 first_wrong (x ∷ xs) (inl e) some = absurd (cons_nil e)
@@ -72,11 +72,11 @@ pub none_left : (errors : List SqlError) → is_empty errors ≡ true → errors
 none_left [] none = refl
 none_left (x ∷ xs) none = absurd (true≢false (sym none))
 
-empty_append : (xs ys : List SqlError) → is_empty (xs ++ ys) ≡ (is_empty xs && is_empty ys)
+pub empty_append : (xs ys : List SqlError) → is_empty (xs ++ ys) ≡ (is_empty xs && is_empty ys)
 empty_append [] ys = refl
 empty_append (x ∷ xs) ys = refl
 
-and_assoc : (a b c : Bool) → ((a && b) && c) ≡ (a && (b && c))
+pub and_assoc : (a b c : Bool) → ((a && b) && c) ≡ (a && (b && c))
 and_assoc true b c = refl
 and_assoc false b c = refl
 
@@ -95,7 +95,7 @@ step_tuples columns numbers row rows fits fit after is both =
 -- what the resolution of rows goes by
 pub ruleset rows_resolved = (stops_before, stops_behind, stops_last, none_left, step_tuples)
 
-empty_test : (b : Bool) → is_empty (if b then [] else WrongKind ∷ []) ≡ b
+pub empty_test : (b : Bool) → is_empty (if b then [] else WrongKind ∷ []) ≡ b
 empty_test true = refl
 empty_test false = refl
 

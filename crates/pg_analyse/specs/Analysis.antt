@@ -1,17 +1,20 @@
 -- What analysis makes of a statement as it is written.
 use Rattle.std.specs.Prelude.{◌≡◌, List, [], ◌∷◌, ◌++◌, Option, Some, None, Result, Ok, Err, if◌then◌else◌}
+use Rattle.pg_parse_stmt.specs.declared.tree.Delete.{Delete as DeleteTree}
 use Rattle.pg_parse_stmt.specs.declared.tree.Insert.{Insert as InsertTree}
 use Rattle.pg_parse_stmt.specs.declared.tree.StmtTree.{StmtTree}
 use Rattle.pg_parse_stmt.specs.declared.tree.StmtTree.TheVariants as stmt
+use Rattle.pg_parse_stmt.specs.declared.tree.Update.{Update as UpdateTree}
 use Rattle.pg_model.specs.declared.catalogue.TableShape.{TableShape}
 use Rattle.pg_model.specs.declared.error.SqlError.TheVariants as error
 use Rattle.pg_model.specs.declared.statement.NamedTable.{NamedTable}
 use Rattle.pg_model.specs.declared.statement.Statement.{Statement}
 use Rattle.pg_model.specs.declared.statement.Statement.TheVariants as statement
-use Rattle.pg_analyse.specs.declared.fault.AnalyseFault.{AnalyseFault}
-use Rattle.pg_analyse.specs.declared.fault.AnalyseFault.TheVariants as fault
+use Rattle.pg_resolve.specs.declared.fault.AnalyseFault.{AnalyseFault}
+use Rattle.pg_resolve.specs.declared.fault.AnalyseFault.TheVariants as fault
 use Rattle.pg_analyse.specs.Built.{is_built_declaration, is_built_statement}
-use Rattle.pg_analyse.specs.Causes.{by_phases}
+use Rattle.pg_resolve.specs.Causes.{by_phases}
+use Rattle.pg_analyse.specs.Changes.{delete_of_tree, delete_phases, update_of_tree, update_phases}
 use Rattle.pg_analyse.specs.Tables.{declared_table, table_phases}
 use Rattle.pg_analyse.specs.Inserts.{insert_phases, inserted_into}
 use Rattle.pg_analyse.specs.Queries.{select_phases, select_of_tree, table_named}
@@ -26,6 +29,26 @@ insert_analysis insert (Some named) =
 abbrev pub analysis_of_insert : List TableShape → InsertTree → Result Statement AnalyseFault
 analysis_of_insert catalogue insert = insert_analysis insert (table_named catalogue insert.table)
 
+-- an UPDATE of the table that was found under its name, if there is one
+abbrev pub update_analysis : UpdateTree → Option NamedTable → Result Statement AnalyseFault
+update_analysis update None = Err (fault.Error (error.NoRelation update.target.name))
+update_analysis update (Some named) =
+    by_phases (update_phases update named) (statement.Change (update_of_tree update named))
+
+-- an UPDATE over these tables
+abbrev pub analysis_of_update : List TableShape → UpdateTree → Result Statement AnalyseFault
+analysis_of_update catalogue update = update_analysis update (table_named catalogue update.target.name)
+
+-- a DELETE from the table that was found under its name, if there is one
+abbrev pub delete_analysis : DeleteTree → Option NamedTable → Result Statement AnalyseFault
+delete_analysis delete None = Err (fault.Error (error.NoRelation delete.target.name))
+delete_analysis delete (Some named) =
+    by_phases (delete_phases delete named) (statement.Change (delete_of_tree delete named))
+
+-- a DELETE over these tables
+abbrev pub analysis_of_delete : List TableShape → DeleteTree → Result Statement AnalyseFault
+analysis_of_delete catalogue delete = delete_analysis delete (table_named catalogue delete.target.name)
+
 -- a statement of a form that is built
 abbrev pub built_analysis : List TableShape → StmtTree → Result Statement AnalyseFault
 built_analysis catalogue stmt.Begin = Ok statement.Begin
@@ -34,8 +57,8 @@ built_analysis catalogue stmt.Rollback = Ok statement.Rollback
 built_analysis catalogue (stmt.Select select) =
     by_phases (select_phases catalogue select) (statement.Select (select_of_tree catalogue select))
 built_analysis catalogue (stmt.Insert insert) = analysis_of_insert catalogue insert
-built_analysis catalogue (stmt.Update update) = Err fault.Later
-built_analysis catalogue (stmt.Delete delete) = Err fault.Later
+built_analysis catalogue (stmt.Update update) = analysis_of_update catalogue update
+built_analysis catalogue (stmt.Delete delete) = analysis_of_delete catalogue delete
 built_analysis catalogue (stmt.Merge merge) = Err fault.Later
 built_analysis catalogue (stmt.CreateTable table) = Err fault.Later
 built_analysis catalogue (stmt.CreateIndex index) = Err fault.Later

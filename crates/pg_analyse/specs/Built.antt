@@ -1,10 +1,10 @@
 -- The forms of statements that are built. Every other statement of the grammar is left for later.
-use Rattle.std.specs.Prelude.{Bool, true, false, not, ◌&&◌, ◌||◌, List, [], ◌∷◌, Option, Some, None}
+use Rattle.std.specs.Prelude.{Bool, true, false, ◌&&◌, List, [], ◌∷◌, Option, Some, None}
 use Rattle.std.specs.List.{list_all}
 use Rattle.std.specs.Option.{is_none}
 use Rattle.pg_parse_expr.specs.Tree.{Tree, literal, column, column_of, action, unary, binary}
-use Rattle.pg_parse_stmt.specs.declared.tree.ColumnPart.{ColumnPart}
-use Rattle.pg_parse_stmt.specs.declared.tree.ColumnRule.{ColumnRule}
+use Rattle.pg_parse_stmt.specs.declared.tree.Assignment.{Assignment}
+use Rattle.pg_parse_stmt.specs.declared.tree.Delete.{Delete}
 use Rattle.pg_parse_stmt.specs.declared.tree.Insert.{Insert}
 use Rattle.pg_parse_stmt.specs.declared.tree.Item.{Item}
 use Rattle.pg_parse_stmt.specs.declared.tree.Item.TheVariants as item
@@ -18,6 +18,7 @@ use Rattle.pg_parse_stmt.specs.declared.tree.StmtTree.{StmtTree}
 use Rattle.pg_parse_stmt.specs.declared.tree.StmtTree.TheVariants as stmt
 use Rattle.pg_parse_stmt.specs.declared.tree.TablePart.{TablePart}
 use Rattle.pg_parse_stmt.specs.declared.tree.TablePart.TheVariants as part
+use Rattle.pg_parse_stmt.specs.declared.tree.Update.{Update}
 
 -- there is no item
 abbrev pub is_empty : {X : Type 0} → List X → Bool
@@ -71,6 +72,21 @@ are_built_rows (rows.Query query) = false
 abbrev pub is_built_insert : Insert → Bool
 is_built_insert insert = are_built_rows insert.rows && is_none insert.conflict && is_empty insert.returning
 
+-- a value that is set, without `merge_action()`
+abbrev pub is_built_assignment : Assignment → Bool
+is_built_assignment set = is_built_expr set.value
+
+-- UPDATE of one table
+abbrev pub is_built_update : Update → Bool
+is_built_update update =
+    list_all is_built_assignment update.sets && is_empty update.from && is_built_condition update.condition
+    && is_empty update.returning
+
+-- DELETE from one table
+abbrev pub is_built_delete : Delete → Bool
+is_built_delete delete =
+    is_empty delete.using && is_built_condition delete.condition && is_empty delete.returning
+
 -- statements that a session may be given
 abbrev pub is_built_statement : StmtTree → Bool
 is_built_statement stmt.Begin = true
@@ -78,8 +94,8 @@ is_built_statement stmt.Commit = true
 is_built_statement stmt.Rollback = true
 is_built_statement (stmt.Select select) = is_built_select select
 is_built_statement (stmt.Insert insert) = is_built_insert insert
-is_built_statement (stmt.Update update) = false
-is_built_statement (stmt.Delete delete) = false
+is_built_statement (stmt.Update update) = is_built_update update
+is_built_statement (stmt.Delete delete) = is_built_delete delete
 is_built_statement (stmt.Merge merge) = false
 is_built_statement (stmt.CreateTable table) = false
 is_built_statement (stmt.CreateIndex index) = false

@@ -1,9 +1,8 @@
 -- INSERT with VALUES: its columns, its rows, and its errors by phases.
-use Rattle.std.specs.Prelude.{ℕ, suc, Bool, true, List, [], ◌∷◌, ◌++◌, ◌==◌, filter_map, flat_map, length, map, nat_le, Option, None, if◌then◌else◌}
+use Rattle.std.specs.Prelude.{ℕ, suc, Bool, true, List, [], ◌∷◌, ◌++◌, ◌==◌, filter_map, flat_map, length, map, nat_le, Option, if◌then◌else◌}
 use Rattle.std.specs.Option.{option_map_or}
 use Rattle.pg_lists.specs.Numbered.{item_at}
 use Rattle.pg_values.specs.declared.value.Kind.{Kind}
-use Rattle.pg_exprs.specs.Tree.{Tree as Resolved}
 use Rattle.pg_names.specs.Names.{is_among, number_of}
 use Rattle.pg_parse_expr.specs.Tree.{Tree}
 use Rattle.pg_parse_stmt.specs.declared.tree.Insert.{Insert as InsertTree}
@@ -16,8 +15,9 @@ use Rattle.pg_model.specs.declared.statement.Insert.{Insert}
 use Rattle.pg_model.specs.declared.statement.NamedTable.{NamedTable}
 use Rattle.pg_model.specs.Kinds.{may_be_stored}
 use Rattle.pg_model.specs.Statements.{column_kind}
-use Rattle.pg_analyse.specs.Resolved.{expr_errors, kind_errors, kind_in, expr_of_tree}
-use Rattle.pg_analyse.specs.Scope.{again_errors, column_names}
+use Rattle.pg_resolve.specs.Resolved.{expr_errors, kind_errors, kind_in, expr_of_tree}
+use Rattle.pg_resolve.specs.Scope.{column_names}
+use Rattle.pg_analyse.specs.Tables.{again_errors}
 
 -- the rows that VALUES lists
 abbrev pub tuples_of : RowsTree → List (List Tree)

@@ -1,9 +1,7 @@
 pub mod Built
-pub mod Scope
-pub mod Resolved
-pub mod Causes
 pub mod Queries
-pub mod Inserts
 pub mod Tables
+pub mod Inserts
+pub mod Changes
 pub mod Analysis
 pub mod Laws

@@ -1,5 +1,5 @@
 -- SELECT: its sources, what `*` means, and its errors by phases.
-use Rattle.std.specs.Prelude.{ℕ, suc, List, [], ◌∷◌, ◌++◌, filter_map, flat_map, length, map, Option, Some, None, if◌then◌else◌, unwrap_or}
+use Rattle.std.specs.Prelude.{ℕ, suc, List, [], ◌∷◌, ◌++◌, filter_map, flat_map, map, Option, Some, None, if◌then◌else◌, unwrap_or}
 use Rattle.std.specs.Option.{option_map, option_map_or, option_and_then}
 use Rattle.pg_lists.specs.Numbered.{item_at}
 use Rattle.pg_exprs.specs.Tree.{Tree as Resolved, column as resolved_column}
@@ -20,9 +20,9 @@ use Rattle.pg_model.specs.declared.statement.NamedTable.{NamedTable}
 use Rattle.pg_model.specs.declared.statement.Select.{Select}
 use Rattle.pg_model.specs.declared.statement.Source.{Source}
 use Rattle.pg_model.specs.declared.statement.Source.TheVariants as source
-use Rattle.pg_analyse.specs.Resolved.{condition_errors, expr_errors, expr_of_tree}
-use Rattle.pg_analyse.specs.declared.scope.Known.{Known}
-use Rattle.pg_analyse.specs.Scope.{source_names, source_named}
+use Rattle.pg_resolve.specs.Resolved.{condition_errors, expr_errors, expr_of_tree}
+use Rattle.pg_resolve.specs.declared.scope.Known.{Known}
+use Rattle.pg_resolve.specs.Scope.{source_names, source_named}
 
 -- the names of the tables
 abbrev pub table_names : List TableShape → List (List ℕ)

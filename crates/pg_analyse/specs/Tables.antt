@@ -1,5 +1,5 @@
 -- CREATE TABLE: the table that it declares, and its errors by phases.
-use Rattle.std.specs.Prelude.{ℕ, Bool, false, List, [], ◌∷◌, ◌++◌, filter_map, length, nat_le, nat_lt, Option, Some, None, Result, Ok, Err, if◌then◌else◌, map}
+use Rattle.std.specs.Prelude.{ℕ, false, List, [], ◌∷◌, ◌++◌, filter_map, length, nat_le, nat_lt, Option, Some, None, if◌then◌else◌}
 use Rattle.pg_values.specs.declared.value.Value.TheVariants.{Null}
 use Rattle.pg_names.specs.Names.{is_among}
 use Rattle.pg_parse_stmt.specs.declared.tree.ColumnPart.{ColumnPart}
@@ -13,7 +13,7 @@ use Rattle.pg_model.specs.declared.error.SqlError.{SqlError}
 use Rattle.pg_model.specs.declared.error.SqlError.TheVariants as error
 use Rattle.pg_model.specs.Limits.{most_columns, most_tables}
 use Rattle.pg_analyse.specs.Queries.{table_names}
-use Rattle.pg_analyse.specs.Scope.{again_errors, column_names}
+use Rattle.pg_resolve.specs.Scope.{column_names}
 
 -- a column of its name and kind
 abbrev pub declared_column : ColumnPart → Column
@@ -31,6 +31,10 @@ declared_columns parts = filter_map column_of_part parts
 -- the table that CREATE TABLE declares
 abbrev pub declared_table : CreateTable → TableShape
 declared_table table = record { name = table.name; columns = declared_columns table.parts; checks = [] }
+
+-- no column of that name is among those before it
+abbrev pub again_errors : List (List ℕ) → List ℕ → List SqlError
+again_errors before name = if is_among before name then error.ColumnTwice name ∷ [] else []
 
 -- no table has the name
 abbrev pub taken_errors : List TableShape → List ℕ → List SqlError

@@ -1,9 +1,12 @@
 ghost use Rattle.std.specs.Prelude.{◌≡◌};
 ghost use Rattle.std.specs.List.{list_all};
-ghost use Rattle.pg_analyse.specs.Built.{are_built_rows as built_rows, is_built_condition as built_condition, is_built_declaration as built_declaration, is_built_expr as built_expr, is_built_from as built_from, is_built_insert as built_insert, is_built_item as built_item, is_built_part as built_part, is_built_select as built_select, is_built_statement as built_statement, is_table as table_source};
+ghost use Rattle.pg_analyse.specs.Built.{are_built_rows as built_rows, is_built_assignment as built_assignment, is_built_condition as built_condition, is_built_declaration as built_declaration, is_built_delete as built_delete, is_built_expr as built_expr, is_built_from as built_from, is_built_insert as built_insert, is_built_item as built_item, is_built_part as built_part, is_built_select as built_select, is_built_statement as built_statement, is_built_update as built_update, is_table as table_source};
 
 use pg_parse_expr::{ExprTree, Node};
-use pg_parse_stmt::{Insert, Item, Joined, Rows, Select, Source, StmtTree, TablePart, Tuple};
+use pg_parse_stmt::{
+    Assignment, Delete, Insert, Item, Joined, Rows, Select, Source, StmtTree, TablePart, Tuple,
+    Update,
+};
 
 /// Whether the statement has a form that `analyse` is built for.
 pub fn is_built_statement(tree: &StmtTree) -> bool
@@ -13,11 +16,9 @@ pub fn is_built_statement(tree: &StmtTree) -> bool
         StmtTree::Begin | StmtTree::Commit | StmtTree::Rollback => true,
         StmtTree::Select(select) => is_built_select(select),
         StmtTree::Insert(insert) => is_built_insert(insert),
-        StmtTree::Update(_)
-        | StmtTree::Delete(_)
-        | StmtTree::Merge(_)
-        | StmtTree::CreateTable(_)
-        | StmtTree::CreateIndex(_) => false,
+        StmtTree::Update(update) => is_built_update(update),
+        StmtTree::Delete(delete) => is_built_delete(delete),
+        StmtTree::Merge(_) | StmtTree::CreateTable(_) | StmtTree::CreateIndex(_) => false,
     }
 }
 
@@ -56,6 +57,34 @@ fn is_built_insert(insert: &Insert) -> bool
     are_built_rows(&insert.rows)
         && insert.conflict.is_none()
         && insert.returning.as_slice().is_empty()
+}
+
+fn is_built_update(update: &Update) -> bool
+    ensures { result ≡ built_update update.now }
+{
+    are_built_assignments(update.sets.as_slice())
+        && update.from.as_slice().is_empty()
+        && is_built_condition(&update.condition)
+        && update.returning.as_slice().is_empty()
+}
+
+fn is_built_delete(delete: &Delete) -> bool
+    ensures { result ≡ built_delete delete.now }
+{
+    delete.using.as_slice().is_empty()
+        && is_built_condition(&delete.condition)
+        && delete.returning.as_slice().is_empty()
+}
+
+fn are_built_assignments(sets: &[Assignment]) -> bool
+    ensures { result ≡ list_all built_assignment sets.now }
+{
+    for set in sets {
+        if !is_built_expr(&set.value) {
+            return false;
+        }
+    }
+    true
 }
 
 fn is_built_expr(tree: &ExprTree) -> bool

@@ -1,19 +1,18 @@
 ghost use Rattle.std.specs.Prelude.{◌≡◌, ◌≢◌, ◌+◌, ◌≤◌, ◌++◌, ◌∷◌, [], false, Err, IfErr, IfOk, OnErr, OnOk, length};
 ghost use Rattle.pg_names.specs.Names.{is_among};
-ghost use Rattle.pg_analyse.specs.declared.fault.AnalyseFault.TheVariants.{Memory};
+ghost use Rattle.pg_resolve.specs.declared.fault.AnalyseFault.TheVariants.{Memory};
 ghost use Rattle.pg_analyse.specs.Analysis.{Declares, declaration};
-ghost use Rattle.pg_analyse.specs.Causes.{Stops, in_order};
+ghost use Rattle.pg_resolve.specs.Causes.{Stops, in_order};
 ghost use Rattle.pg_analyse.specs.Queries.{table_names};
-ghost use Rattle.pg_analyse.specs.Scope.{again_errors, column_names};
-ghost use Rattle.pg_analyse.specs.Tables.{declared_column, declared_columns, declared_table, limit_errors, table_phases, twice_errors};
+ghost use Rattle.pg_resolve.specs.Scope.{column_names};
+ghost use Rattle.pg_analyse.specs.Tables.{again_errors, declared_column, declared_columns, declared_table, limit_errors, table_phases, twice_errors};
 
-use crate::AnalyseFault;
 use crate::built::is_built_declaration;
-use crate::name::name_of;
 use pg_lists::Items;
 use pg_model::{Catalogue, Column, Columns, Counted, SqlError, TableShape};
 use pg_names::NamedItems;
 use pg_parse_stmt::{ColumnPart, CreateTable, StmtTree, TablePart};
+use pg_resolve::{AnalyseFault, name_of};
 use pg_shared::Shared;
 use pg_values::Value;
 use std::alloc::Global;
@@ -52,7 +51,7 @@ pub fn declare(
 }
 
 /// The table that a CREATE TABLE declares, or its first error.
-#[tactic(auto, using(crate::proofs::Stopping::stops_before, crate::proofs::Stopping::stops_behind))]
+#[tactic(auto, using(pg_resolve::proofs::Stopping::stops_before, pg_resolve::proofs::Stopping::stops_behind))]
 fn new_table(
     alloc: Global,
     catalogue: &Catalogue,

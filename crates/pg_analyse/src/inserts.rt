@@ -1,19 +1,14 @@
 ghost use Rattle.std.specs.Prelude.{◌≡◌, ◌≢◌, ◌++◌, ◌∷◌, [], Err, IfErr, IfOk, Ok, OnOk, Some, ◌&&◌, filter_map, flat_map, map};
 ghost use Rattle.pg_names.specs.Names.{number_of};
 ghost use Rattle.pg_model.specs.declared.statement.Statement.TheVariants.{Insert as InsertInto};
-ghost use Rattle.pg_analyse.specs.declared.fault.AnalyseFault.TheVariants.{Memory};
+ghost use Rattle.pg_resolve.specs.declared.fault.AnalyseFault.TheVariants.{Memory};
 ghost use Rattle.pg_analyse.specs.Analysis.{analysis_of_insert};
 ghost use Rattle.pg_analyse.specs.Built.{is_empty};
-ghost use Rattle.pg_analyse.specs.Causes.{Stops, in_order};
+ghost use Rattle.pg_resolve.specs.Causes.{Stops, in_order};
 ghost use Rattle.pg_analyse.specs.Inserts.{count_errors, fits_at, insert_phases, inserted_into, is_count as counts, listed_errors, listing_errors, numbers_from, row_phases, store_errors, target_columns as targets, tuples_of as tuples_in};
-ghost use Rattle.pg_analyse.specs.Resolved.{expr_errors, kind_in, expr_of_tree};
-ghost use Rattle.pg_analyse.specs.Scope.{column_names};
+ghost use Rattle.pg_resolve.specs.Resolved.{expr_errors, kind_in, expr_of_tree};
+ghost use Rattle.pg_resolve.specs.Scope.{column_names};
 
-use crate::AnalyseFault;
-use crate::expression::resolve;
-use crate::kinds::may_be_stored;
-use crate::name::{name_of, number};
-use crate::scope::Scope;
 use crate::tables::table_named;
 use pg_exprs::Expr;
 use pg_lexer::NameText;
@@ -24,6 +19,7 @@ use pg_model::{
 use pg_names::{NamedItems, Names};
 use pg_parse_expr::ExprTree;
 use pg_parse_stmt::{Insert as InsertTree, Rows, Tuple};
+use pg_resolve::{AnalyseFault, Scope, may_be_stored, name_of, number, resolve};
 use pg_values::Kind;
 use std::alloc::Global;
 
@@ -44,7 +40,7 @@ pub(crate) fn analyse_insert(
 }
 
 /// An INSERT into a table that exists, or its first error.
-#[tactic(auto, using(crate::proofs::Stopping::stops_before, crate::proofs::Stopping::stops_behind))]
+#[tactic(auto, using(pg_resolve::proofs::Stopping::stops_before, pg_resolve::proofs::Stopping::stops_behind))]
 fn insert_into(
     alloc: Global,
     target: NamedTable,
@@ -131,7 +127,7 @@ fn listed_columns(
 }
 
 /// The number of a column that is listed behind those seen, or the error of its name.
-#[tactic(auto, using(crate::proofs::Stopping::stops_before, crate::proofs::Stopping::stops_behind))]
+#[tactic(auto, using(pg_resolve::proofs::Stopping::stops_before, pg_resolve::proofs::Stopping::stops_behind))]
 fn listed_column(
     alloc: Global,
     columns: &Columns,
@@ -210,7 +206,7 @@ fn resolve_rows(
 
 /// A row with its names resolved, and whether its values may be stored; or the first error of its
 /// expressions.
-#[tactic(auto, using(crate::proofs::Stopping::stops_before, crate::proofs::Stopping::stops_behind, crate::proofs::Storing::step_values))]
+#[tactic(auto, using(pg_resolve::proofs::Stopping::stops_before, pg_resolve::proofs::Stopping::stops_behind, crate::proofs::Storing::step_values))]
 fn resolve_row(
     alloc: Global,
     columns: &Columns,
@@ -260,7 +256,8 @@ fn fits_column(columns: &Columns, numbers: &[u32], at: usize, kind: Option<Kind>
     may_be_stored(kind, column.kind)
 }
 
-fn both(a: bool, b: bool) -> bool
+/// Whether both hold.
+pub(crate) fn both(a: bool, b: bool) -> bool
     ensures { result ≡ (a && b) }
 {
     a && b

@@ -2,20 +2,16 @@
 #![tactic(auto)]
 
 mod built;
+mod changes;
 mod declarations;
-mod expression;
-mod fault;
 mod inserts;
-mod kinds;
 mod laws;
-mod name;
 mod queries;
-mod scope;
 mod statements;
 mod tables;
 
 pub use built::{is_built_declaration, is_built_statement};
 pub use declarations::declare;
-pub use fault::AnalyseFault;
 pub use laws::{declarations_fit, statements_fit};
+pub use pg_resolve::AnalyseFault;
 pub use statements::analyse;

@@ -1,16 +1,12 @@
 ghost use Rattle.std.specs.Prelude.{◌≡◌, ◌++◌, ◌∷◌, [], IfErr, IfOk, OnOk, flat_map};
 ghost use Rattle.std.specs.Option.{option_map};
-ghost use Rattle.pg_analyse.specs.declared.fault.AnalyseFault.TheVariants.{Memory};
+ghost use Rattle.pg_resolve.specs.declared.fault.AnalyseFault.TheVariants.{Memory};
 ghost use Rattle.pg_parse_stmt.specs.declared.tree.Item.TheVariants.{AllOf};
-ghost use Rattle.pg_analyse.specs.Causes.{Stops, in_order};
+ghost use Rattle.pg_resolve.specs.Causes.{Stops, in_order};
 ghost use Rattle.pg_analyse.specs.Queries.{all_columns_from, columns_from, item_errors, item_exprs, known_as, known_name as known, part_errors, reference_errors, relation_errors, scope_of, select_phases, select_of_tree, sources_of, tables_in, where_errors};
-ghost use Rattle.pg_analyse.specs.Resolved.{expr_of_tree};
-ghost use Rattle.pg_analyse.specs.Scope.{source_names};
+ghost use Rattle.pg_resolve.specs.Resolved.{expr_of_tree};
+ghost use Rattle.pg_resolve.specs.Scope.{source_names};
 
-use crate::AnalyseFault;
-use crate::expression::{resolve, resolve_condition};
-use crate::name::{name_of, number};
-use crate::scope::{Known, Scope};
 use crate::tables::table_named;
 use pg_exprs::Expr;
 use pg_lexer::NameText;
@@ -21,10 +17,11 @@ use pg_parse_expr::ExprTree;
 use pg_parse_stmt::{
     Item, Select as SelectTree, Source as SourceTree, Sources as FromList, TableRef,
 };
+use pg_resolve::{AnalyseFault, Known, Scope, name_of, number, resolve, resolve_condition};
 use std::alloc::{AllocError, Global};
 
 /// A SELECT with its names resolved, or its first error.
-#[tactic(auto, using(crate::proofs::Stopping::stops_before))]
+#[tactic(auto, using(pg_resolve::proofs::Stopping::stops_before))]
 pub(crate) fn analyse_select(
     alloc: Global,
     catalogue: &Catalogue,
@@ -46,7 +43,7 @@ pub(crate) fn analyse_select(
 }
 
 /// The items of a SELECT and its condition, or the first error of their expressions.
-#[tactic(auto, using(crate::proofs::Stopping::stops_before, crate::proofs::Stopping::stops_behind))]
+#[tactic(auto, using(pg_resolve::proofs::Stopping::stops_before, pg_resolve::proofs::Stopping::stops_behind))]
 fn resolve_parts(
     alloc: Global,
     scope: &Scope,
@@ -90,7 +87,7 @@ fn relations(
 }
 
 /// Puts a table behind the other sources, unless it does not exist or one of them has its name.
-#[tactic(auto, using(crate::proofs::Stopping::stops_before, crate::proofs::Stopping::stops_behind))]
+#[tactic(auto, using(pg_resolve::proofs::Stopping::stops_before, pg_resolve::proofs::Stopping::stops_behind))]
 fn push_table(
     alloc: Global,
     catalogue: &Catalogue,
@@ -118,7 +115,7 @@ fn push_table(
 }
 
 /// The name that expressions know a table by.
-fn known_name(alloc: Global, table: &TableRef) -> Result<Name, AllocError>
+pub(crate) fn known_name(alloc: Global, table: &TableRef) -> Result<Name, AllocError>
     ensures { IfOk result (λ name. name ≡ known table.now) }
 {
     match &table.alias {
@@ -128,7 +125,7 @@ fn known_name(alloc: Global, table: &TableRef) -> Result<Name, AllocError>
 }
 
 /// The expressions that the items of a SELECT mean, or the first error of an item.
-#[tactic(auto, using(crate::proofs::Stopping::stops_before, crate::proofs::Stopping::stops_behind, crate::proofs::Steps::step_list))]
+#[tactic(auto, using(pg_resolve::proofs::Stopping::stops_before, pg_resolve::proofs::Stopping::stops_behind, crate::proofs::Steps::step_list))]
 fn resolve_items(alloc: Global, scope: &Scope, items: &[Item]) -> Result<Exprs, AnalyseFault>
     ensures exprs { IfOk result (λ exprs. exprs ≡ flat_map (item_exprs scope.now) items.now) }
     ensures ok { OnOk result (flat_map (item_errors scope.now) items.now ≡ []) }
@@ -213,7 +210,7 @@ fn push_columns(source: u32, columns: &Columns, exprs: &mut Exprs) -> Result<(),
 }
 
 /// The condition behind WHERE, or its first error.
-fn resolve_where(
+pub(crate) fn resolve_where(
     alloc: Global,
     scope: &Scope,
     condition: &Option<ExprTree>,

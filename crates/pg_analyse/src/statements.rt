@@ -1,13 +1,14 @@
 ghost use Rattle.std.specs.Prelude.{◌≡◌, ◌≢◌, Err};
-ghost use Rattle.pg_analyse.specs.declared.fault.AnalyseFault.TheVariants.{Memory};
+ghost use Rattle.pg_resolve.specs.declared.fault.AnalyseFault.TheVariants.{Memory};
 ghost use Rattle.pg_analyse.specs.Analysis.{analysis};
 
-use crate::AnalyseFault;
 use crate::built::is_built_statement;
+use crate::changes::{analyse_delete, analyse_update};
 use crate::inserts::analyse_insert;
 use crate::queries::analyse_select;
 use pg_model::{Catalogue, Statement};
 use pg_parse_stmt::StmtTree;
+use pg_resolve::AnalyseFault;
 use std::alloc::Global;
 
 /// The statement with its names resolved over the catalogue, or its first error. The version is the
@@ -36,6 +37,14 @@ pub fn analyse(
         StmtTree::Insert(insert) => {
             let insert = analyse_insert(alloc, catalogue, insert)?;
             Ok(Statement::Insert(insert))
+        }
+        StmtTree::Update(update) => {
+            let update = analyse_update(alloc, catalogue, update)?;
+            Ok(Statement::Change(update))
+        }
+        StmtTree::Delete(delete) => {
+            let delete = analyse_delete(alloc, catalogue, delete)?;
+            Ok(Statement::Change(delete))
         }
         _ => Err(AnalyseFault::Later),
     }

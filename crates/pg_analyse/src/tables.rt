@@ -1,14 +1,13 @@
 ghost use Rattle.std.specs.Prelude.{◌≡◌, ◌≢◌, [], IfErr, IfOk, OnOk, None, Some};
 ghost use Rattle.pg_model.specs.declared.error.SqlError.TheVariants.{NoRelation};
-ghost use Rattle.pg_analyse.specs.declared.fault.AnalyseFault.TheVariants.{Error, Memory};
-ghost use Rattle.pg_analyse.specs.Causes.{Stops};
+ghost use Rattle.pg_resolve.specs.declared.fault.AnalyseFault.TheVariants.{Error, Memory};
+ghost use Rattle.pg_resolve.specs.Causes.{Stops};
 ghost use Rattle.pg_analyse.specs.Queries.{existence_errors, table_named as named_table};
 
-use crate::AnalyseFault;
-use crate::name::{name_of, number};
 use pg_lexer::NameText;
 use pg_lists::TryCopy;
 use pg_model::{Catalogue, NamedTable, SqlError};
+use pg_resolve::{AnalyseFault, name_of, number};
 use std::alloc::Global;
 
 /// The table of that name, with its number.

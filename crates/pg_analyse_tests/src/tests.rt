@@ -50,11 +50,46 @@ insert into t (a, b) values ('x', 1 + 'y') => no operator
 insert into t (b) values ('x'), (1) => wrong kind
 select t.a from t, u => later
 select a from t order by a => later
-update t set a = 1 => later
-delete from t => later
+update t set a = 1 from u => later
+update t set a = 1 returning a => later
+update t set a = merge_action() => later
+delete from t using u => later
+delete from t returning a => later
+merge into t using u on t.a = u.a when matched then delete => later
 insert into t values (1) returning a => later
 insert into t values (1) on conflict do nothing => later
 create table v (a integer) => later";
+
+/// UPDATEs and DELETEs of those tables, each with what analysis answers.
+const CHANGES: &str = "update t set a = 1 => fits
+update t set a = a + 1, b = b || 'x' where c => fits
+update t as x set a = x.d, d = x.a where x.b is null => fits
+update t x set a = null, b = null, c = null, d = null => fits
+update t set c = null where null => fits
+update v set e = 1, e = 2 => no relation v
+update t set e = x.a => no column e
+update t set e = 1, e = 2 => no column e
+update t set a = 1, b = 'x', a = 2, e = 3 => set twice a
+update t set a = e, a = 2 => set twice a
+update t set a = t.e => no column e
+update t as x set a = t.a => no relation t
+update t set a = u.a => no relation u
+update t set b = 1, a = e => no column e
+update t set b = 1 where e => no column e
+update t set a = a + b where a => no operator
+update t set b = 1 where c and a => no operator
+update t set b = 1 where a => wrong kind
+update t set a = b => wrong kind
+update t set d = 'x' => wrong kind
+update t set a = 1, c = a where null => wrong kind
+delete from t => fits
+delete from t as x where x.a = a => fits
+delete from t where null => fits
+delete from v where e => no relation v
+delete from t as x where t.a = 1 => no relation t
+delete from t where e = 1 => no column e
+delete from t where not a => no operator
+delete from t where a => wrong kind";
 
 /// Declarations behind those tables, each with what analysis answers.
 const DECLARATIONS: &str = "create table v (a integer) => fits
@@ -106,6 +141,7 @@ fn shown(alloc: Global, fault: &AnalyseFault) -> Result<Vec<u8>, AllocError> {
         AnalyseFault::Error(SqlError::NoRelation(name)) => named(alloc, "no relation ", name),
         AnalyseFault::Error(SqlError::NoColumn(name)) => named(alloc, "no column ", name),
         AnalyseFault::Error(SqlError::ColumnTwice(name)) => named(alloc, "column twice ", name),
+        AnalyseFault::Error(SqlError::SetTwice(name)) => named(alloc, "set twice ", name),
         AnalyseFault::Error(SqlError::Ambiguous(name)) => named(alloc, "ambiguous ", name),
         AnalyseFault::Error(SqlError::RelationExists(name)) => named(
             alloc,
@@ -221,6 +257,12 @@ fn first_wrong_declaration(
 #[test]
 fn statements_are_analysed(rt: HostRuntime) -> Result<(), AllocError> {
     assert_eq!(rt; first_wrong_statement(rt.alloc(), STATEMENTS)?, None);
+    Ok(())
+}
+
+#[test]
+fn changes_are_analysed(rt: HostRuntime) -> Result<(), AllocError> {
+    assert_eq!(rt; first_wrong_statement(rt.alloc(), CHANGES)?, None);
     Ok(())
 }
 

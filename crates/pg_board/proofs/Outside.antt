@@ -1,13 +1,15 @@
 -- A session between statements makes the first of its moves.
-use Rattle.std.proofs.Common.{◌≡◌, ℕ, Bool, true, false, Option, Some, None, slice_get, refl, sym, ap, ◌∙◌, subst}
+use Rattle.std.proofs.Common.{◌≡◌, ◌+◌, ◌⊎◌, inl, inr, ℕ, Bool, true, false, Option, Some, None, slice_get, refl, sym, ap, ◌∙◌, subst}
 use Rattle.std.specs.Prelude.{Result, Ok, Err}
 use Rattle.pg_xacts.specs.Snapshots.{WasTakenOf, snapshot_of}
 use Rattle.pg_model.specs.declared.error.SqlError.{SqlError}
+use Rattle.pg_model.specs.declared.journal.Entry.{Entry}
 use Rattle.pg_model.specs.declared.journal.EntryAct.{EntryAct}
 use Rattle.pg_model.specs.declared.journal.EntryAct.TheVariants as entry
 use Rattle.pg_model.specs.declared.script.Script.{Script}
 use Rattle.pg_model.specs.declared.statement.Statement.{Statement}
 use Rattle.pg_model.specs.declared.statement.Statement.TheVariants as statement
+use Rattle.pg_world.specs.Changes.{row_at, table_at}
 use Rattle.pg_world.specs.declared.session.Block.{Block}
 use Rattle.pg_world.specs.declared.session.Block.TheVariants.{NoBlock as no_block, OpenBlock as open_block, FailedBlock as failed_block}
 use Rattle.pg_world.specs.declared.session.Progress.TheVariants.{Inside as inside}
@@ -21,16 +23,20 @@ use Rattle.pg_relation.specs.Needs.{Needs}
 use Rattle.pg_relation.specs.Stepped.{first_of_list}
 use Rattle.pg_relation.proofs.Journals.{first_contained}
 use Rattle.pg_relation.proofs.Needs.{move_of}
-use Rattle.pg_relation.proofs.Spares.{IsStable}
+use Rattle.pg_relation.proofs.HeldStays.{held_stays}
+use Rattle.pg_relation.proofs.LockingKept.{IsSteady}
+use Rattle.pg_board.specs.Counts.{HasFew}
 use Rattle.pg_board.specs.declared.server.Server.{Server}
 use Rattle.pg_board.specs.declared.session.Machine.{Machine}
 use Rattle.pg_board.specs.declared.session.Place.{Place}
 use Rattle.pg_board.specs.declared.session.Place.TheVariants as place_of
 use Rattle.pg_board.specs.declared.session.Session.{Session}
 use Rattle.pg_board.specs.Kept.{HasMovedOutside, TakesSnapshot, act_kept, outside_moves}
-use Rattle.pg_board.specs.Servers.{IsProgressOf, IsServerOf, IsSessionOf, kept_progress, kept_session, kept_world}
+use Rattle.pg_board.specs.Servers.{IsProgressOf, IsServerOf, IsSessionOf, has_staged, kept_progress, kept_session, kept_world}
 use Rattle.pg_board.specs.Steps.{HasActed}
 use Rattle.pg_board.proofs.Acts.{closed, committed, failed, replied, rolled_back, snapped}
+use Rattle.pg_board.proofs.FewKept.{few_closed, few_committed, few_failed, few_replied, few_rolled_back, few_snapped}
+use Rattle.pg_board.proofs.Lifting.{HoldsStay}
 use Rattle.pg_board.proofs.Rooms.{pair_of}
 
 -- moves between statements read of the world no more than how many commits there are
@@ -41,6 +47,7 @@ module _ (one other : World) (same : one.transactions ≡ other.transactions) (s
   beginning_same (Ok statement.Rollback) = refl
   beginning_same (Ok (statement.Select select)) = rw same refl
   beginning_same (Ok (statement.Insert insert)) = rw same refl
+  beginning_same (Ok (statement.Change change)) = rw same refl
   beginning_same (Err error) = refl
 
   block_same : (given : Result Statement SqlError) (block : Block) (ends : Bool) →
@@ -80,6 +87,7 @@ module _ (world : World) (session : SessionView) (commits : ℕ) where
       at (Some xact) e = absurd (cc e)
   snapped_begins (statement.Select select) is = (tt, let e : entry.Snapped world.transactions.commits ≡ entry.Snapped commits = cc is in sym (cc e))
   snapped_begins (statement.Insert insert) is = (tt, let e : entry.Snapped world.transactions.commits ≡ entry.Snapped commits = cc is in sym (cc e))
+  snapped_begins (statement.Change change) is = (tt, let e : entry.Snapped world.transactions.commits ≡ entry.Snapped commits = cc is in sym (cc e))
 
   snapped_blocks : (own : Statement) (block : Block) (ends : Bool) →
       first_of_list (block_moves world session (Ok own) block ends) ≡ Some (entry.Snapped commits) →
@@ -121,8 +129,8 @@ module _ (world : World) (session : SessionView) (commits : ℕ) where
   snapped_given (Some (Err error)) place_of.Closed is = absurd (cc is)
 
 module _ (script : Script) (server new : Server) (world : World) (number : ℕ) (kept : Session)
-    (is_kept : slice_get server.sessions number ≡ Some kept) (serves : IsServerOf script server world) (stable : IsStable script world)
-    (act : EntryAct) (moved : HasMovedOutside server new number (statement_at script number (kept_session kept)) kept act) where
+    (is_kept : slice_get server.sessions number ≡ Some kept) (serves : IsServerOf script server world) (steady : IsSteady script world)
+    (free : slice_get world.waits number ≡ Some None) (act : EntryAct) (moved : HasMovedOutside server new number (statement_at script number (kept_session kept)) kept act) where
   abbrev given : Option (Result Statement SqlError)
   given = statement_at script number (kept_session kept)
 
@@ -148,10 +156,10 @@ module _ (script : Script) (server new : Server) (world : World) (number : ℕ) 
       shown.1 ∙ ap Some (stands_as_kept shown.0 (serves.each number kept shown.0 is_kept shown.1))
 
   moves_are : moves_of script world number ≡ outside_moves world (kept_session kept) given kept.place
-  moves_are = rw is_shown (at kept.place refl)
+  moves_are = rw (is_shown, free) (at kept.place refl)
     where
       at : (place : Place) → kept.place ≡ place →
-          session_moves world (kept_session kept) given (kept_progress place) ≡ outside_moves world (kept_session kept) given place
+          session_moves script world number (kept_session kept) given (kept_progress place) ≡ outside_moves world (kept_session kept) given place
       at place_of.Idle e = refl
       at (place_of.Inside machine) e = absurd (not_inside machine e)
       at (place_of.Ending tag) e = refl
@@ -170,34 +178,79 @@ module _ (script : Script) (server new : Server) (world : World) (number : ℕ) 
       at (place_of.Ending tag) e p = cc p
       at place_of.Closed e p = cc p
 
+  unstaged : (machine : Machine) → kept.place ≡ place_of.Inside machine → has_staged machine ≡ false
+  unstaged machine is = absurd (not_inside machine is)
+
+  -- what an act makes of the server it makes of the world, and no table gets a version
+  pub record IsLeft (one : EntryAct) : Type 0 where
+    pub served : IsServerOf script (act_kept server number given kept one) (act_effect world number given (kept_session kept) one)
+    pub few : (most : ℕ) → HasFew most server → HasFew (most + 1) (act_kept server number given kept one)
+
   lifts : (one : EntryAct) → first_of_list (outside_moves world (kept_session kept) given kept.place) ≡ Some one →
-      Needs world given (kept_session kept) one →
+      Needs script world number given (kept_session kept) one →
+      HoldsStay script world (act_effect world number given (kept_session kept) one).tables number →
       ((commits : ℕ) (own : Statement) → one ≡ entry.Snapped commits → given ≡ Some (Ok own) → WasTakenOf server.xacts (snapshot_of server.xacts)) →
-      IsServerOf script (act_kept server number given kept one) (act_effect world number given (kept_session kept) one)
-  lifts (entry.Snapped commits) first needs taken =
+      IsLeft one
+  lifts (entry.Snapped commits) first needs stay taken =
       let given_is = snapped_given world (kept_session kept) commits given kept.place first in
       let takes = snapped_takes world (kept_session kept) commits given_is.0 given kept.place given_is.1 first in
-      rw given_is.1
-      (snapped script server world number kept is_kept is_shown serves stable given_is.0 commits given_is.1 takes.0 takes.1
-      (taken commits given_is.0 refl given_is.1))
-  lifts entry.Committed first needs taken =
-      committed script server world number kept is_kept is_shown serves stable (λ machine e. absurd (not_inside machine e))
-  lifts entry.RolledBack first needs taken =
-      rolled_back script server world number kept is_kept is_shown serves stable (λ machine e. absurd (not_inside machine e))
-  lifts (entry.Replied reply) first needs taken = replied script server world number kept is_kept is_shown serves stable reply.tag
-  lifts (entry.Failed error) first needs taken = failed script server world number kept is_kept is_shown serves stable
-  lifts entry.Closed first needs taken = closed script server world number kept is_kept is_shown serves stable
-  lifts (entry.Found candidate) first needs taken = absurd (nothing_inside needs.0.opened.running needs.0.opened.inside_is)
-  lifts (entry.Placed table row) first needs taken = absurd (nothing_inside needs.0.opened.running needs.0.opened.inside_is)
-  lifts (entry.Inserted table row) first needs taken = absurd (nothing_inside needs.opened.running needs.opened.inside_is)
+      record {
+        served = rw given_is.1
+            (snapped script server world number kept is_kept is_shown serves steady.stable unstaged given_is.0 commits given_is.1 takes.0 takes.1
+            (taken commits given_is.0 refl given_is.1));
+        few = rw given_is.1 (few_snapped server number kept is_kept given_is.0);
+      }
+  lifts entry.Committed first needs stay taken = record {
+    served = committed script server world number kept is_kept is_shown serves steady.stable unstaged (λ machine e. absurd (not_inside machine e)) stay;
+    few = few_committed server number kept is_kept;
+  }
+  lifts entry.RolledBack first needs stay taken = record {
+    served = rolled_back script server world number kept is_kept is_shown serves steady.stable unstaged (λ machine e. absurd (not_inside machine e)) stay;
+    few = few_rolled_back server number kept is_kept;
+  }
+  lifts (entry.Replied reply) first needs stay taken = record {
+    served = replied script server world number kept is_kept is_shown serves steady.stable unstaged reply.tag;
+    few = few_replied server number kept is_kept reply.tag;
+  }
+  lifts (entry.Failed error) first needs stay taken = record {
+    served = failed script server world number kept is_kept is_shown serves steady.stable unstaged stay;
+    few = few_failed server number kept is_kept;
+  }
+  lifts entry.Closed first needs stay taken = record {
+    served = closed script server world number kept is_kept is_shown serves steady.stable unstaged stay;
+    few = few_closed server number kept is_kept;
+  }
+  lifts (entry.Found candidate) first needs stay taken = absurd (nothing_inside needs.0.opened.running needs.0.opened.inside_is)
+  lifts (entry.Locked table row strength) first needs stay taken = absurd (nothing_inside needs.0.opened.running needs.0.opened.inside_is)
+  lifts (entry.Placed table row) first needs stay taken = absurd (nothing_inside needs.0.opened.running needs.0.opened.inside_is)
+  lifts (entry.Inserted table row) first needs stay taken = absurd (nothing_inside needs.opened.running needs.opened.inside_is)
+  lifts (entry.Updated table row) first needs stay taken = absurd (nothing_inside needs.1.opened.running needs.1.opened.inside_is)
+  lifts (entry.Deleted table row) first needs stay taken = absurd (nothing_inside needs.1.opened.running needs.1.opened.inside_is)
+  lifts entry.Passed first (inl needs) stay taken = absurd (nothing_inside needs.opened.running needs.opened.inside_is)
+  lifts entry.Passed first (inr needs) stay taken = absurd (nothing_inside needs.1.opened.running needs.1.opened.inside_is)
+  lifts (entry.Waits other) first needs stay taken = absurd (nothing_inside needs.chosen.opened.running needs.chosen.opened.inside_is)
 
-  pub outside_step : HasActed script number world new act
+  effect_is : (one : EntryAct) → effect script world (record { session = number; act = one }) ≡ act_effect world number given (kept_session kept) one
+  effect_is one = rw is_shown refl
+
+  -- a permitted act leaves the rows that others hold
+  stays : (one : EntryAct) → first_of_list (moves_of script world number) ≡ Some one →
+      HoldsStay script world (act_effect world number given (kept_session kept) one).tables number
+  stays one first other table row apart holds =
+      let entry : Entry = record { session = number; act = one } in
+      let h = held_stays script world entry steady (first_contained _ _ first) other table row holds (λ e. apart (sym e)) in
+      ap (λ w. row_at (table_at w.tables table) row) (sym (effect_is one)) ∙ h.same_row
+
+  pub outside_step : HasActed script number world server new act
   outside_step =
       let first : first_of_list (moves_of script world number) ≡ Some act = ap first_of_list moves_are ∙ first_in_world in
       let m = move_of script world (record { session = number; act = act }) (first_contained _ _ first) in
       let same : m.session ≡ kept_session kept = let e : Some m.session ≡ Some (kept_session kept) = sym m.is ∙ is_shown in cc e in
+      let left =
+      lifts act first_in_world (subst (λ s. Needs script world number (statement_at script number s) s act) same m.needs) (stays act first) moved.taken in
       record {
         first = first;
         serves = subst (λ s. IsServerOf script s (effect script world (record { session = number; act = act }))) (sym moved.new_is)
-            (rw is_shown (lifts act first_in_world (subst (λ s. Needs world (statement_at script number s) s act) same m.needs) moved.taken));
+            (subst (λ w. IsServerOf script (act_kept server number given kept act) w) (sym (effect_is act)) left.served);
+        few = subst (λ s. (most : ℕ) → HasFew most server → HasFew (most + 1) s) (sym moved.new_is) left.few;
       }

@@ -1,17 +1,14 @@
 -- What is done to the tables of a server is done to the tables of the world.
-use Rattle.std.proofs.Common.{◌≡◌, ℕ, zero, suc, List, [], ◌∷◌, map, Some, None, refl, ap, sym, ◌∙◌}
+use Rattle.std.proofs.Common.{◌≡◌, ℕ, zero, suc, List, [], ◌∷◌, map, Option, Some, None, refl, ap, sym, ◌∙◌}
 use Rattle.std.specs.Prelude.{option_map}
 use Rattle.std.specs.Option.{option_map_or}
 use Rattle.std.proofs.lemmas.Option.{slice_get-map}
 use Rattle.pg_lists.specs.Numbered.{item_at, with_changed_item, with_item}
-use Rattle.pg_values.specs.declared.value.Value.{Value}
-use Rattle.pg_xacts.specs.declared.me.Me.{Me}
 use Rattle.pg_world.specs.declared.table.TableView.{TableView}
-use Rattle.pg_world.specs.Tables.{TransactionEnd, commit, empty_table, rollback, row_inserted, row_placed, table_after_end}
-use Rattle.pg_table.specs.States.{IsTable, TableState, empty_state, row_inserted_in, row_placed_in, state_ended, state_undone, table_shown}
+use Rattle.pg_world.specs.Tables.{TransactionEnd, commit, empty_table, rollback, table_after_end}
+use Rattle.pg_table.specs.States.{TableState, empty_state, state_ended, state_undone, table_shown}
 use Rattle.pg_table.proofs.Gone.{ended_shown, undone_shown}
-use Rattle.pg_table.proofs.Shown.{inserted_shown, placed_shown}
-use Rattle.pg_board.specs.Shown.{IsPlacedIn, tables_shown}
+use Rattle.pg_board.specs.Shown.{tables_shown}
 
 -- a table of a number
 pub shown_at : (tables : List TableState) (number : ℕ) → item_at (tables_shown tables) number ≡ option_map table_shown (item_at tables number)
@@ -59,20 +56,14 @@ pub rolled_back_in : (xact : ℕ) (tables : List TableState) →
     tables_shown (map (state_undone xact) tables) ≡ map (table_after_end xact rollback) (tables_shown tables)
 rolled_back_in xact tables = ended_with rollback xact (state_undone xact) (λ state. undone_shown state xact) tables
 
--- a row placed and a row stored in one table
-pub placed_in : (tables : List TableState) (number : ℕ) (state : TableState) (me : Me) (values : List Value) →
-    item_at tables number ≡ Some state → IsTable state →
-    tables_shown (with_item tables number (row_placed_in state me values))
-    ≡ with_changed_item (λ view. row_placed view me values) (tables_shown tables) number
-placed_in tables number state me values there table =
-    shown_changed (λ view. row_placed view me values) tables number state (row_placed_in state me values) there
-    (placed_shown state me values table)
-
-pub settled_in : (tables : List TableState) (number : ℕ) (state : TableState) (row : ℕ) →
-    item_at tables number ≡ Some state → IsTable state → (me : Me) → IsPlacedIn (tables_shown tables) number me row →
-    tables_shown (with_item tables number (row_inserted_in state row))
-    ≡ with_changed_item (λ view. row_inserted view me row) (tables_shown tables) number
-settled_in tables number state row there table me mine =
-    shown_changed (λ view. row_inserted view me row) tables number state (row_inserted_in state row) there
-    (inserted_shown state me table row
-    (λ placed is. mine (table_shown state) placed (shown_at tables number ∙ ap (λ o. option_map table_shown o) there) is))
+-- one table is changed, if there is one of that number
+pub changed_in : (change : TableState → TableState) (view : TableView → TableView) (tables : List TableState) (number : ℕ) →
+    ((state : TableState) → item_at tables number ≡ Some state → table_shown (change state) ≡ view (table_shown state)) →
+    tables_shown (with_changed_item change tables number) ≡ with_changed_item view (tables_shown tables) number
+changed_in change view tables number same = at (item_at tables number) refl
+  where
+    at : (one : Option TableState) → item_at tables number ≡ one →
+        tables_shown (option_map_or (λ state. with_item tables number (change state)) one tables)
+        ≡ with_changed_item view (tables_shown tables) number
+    at None is = shown_kept view tables number is
+    at (Some state) is = shown_changed view tables number state (change state) is (same state is)

@@ -16,7 +16,7 @@ use Rattle.pg_model.specs.Scripts.{session_in}
 use Rattle.pg_world.specs.declared.session.SessionView.{SessionView}
 use Rattle.pg_world.specs.Worlds.{World}
 use Rattle.pg_relation.specs.Lines.{given_to, statements_given}
-use Rattle.pg_relation.specs.Schedules.{continuing, is_idle, is_queued, lowest, or_else, ready}
+use Rattle.pg_relation.specs.Schedules.{continuing, is_idle, is_queued, lowest, or_else, ready, waking}
 use Rattle.pg_board.specs.declared.queues.Queue.{Queue}
 use Rattle.pg_board.specs.Queues.{AreQueues, has_taken, is_given_to, places_of, queue_of, queued_more, ready_by, taken_of}
 
@@ -48,19 +48,19 @@ lowest_same p q bound first (x ∷ xs) within same =
     (ap (λ o. cond (q first x) (Some first) o) (lowest_same p q bound (first + 1) xs (omega (arith, within)) same))
 
 -- what a queue shows of its session
-pub has_taken_is : (script : Script) (taken : ℕ) (queues : List Queue) (last : Option ℕ) (session : ℕ) (x : SessionView) →
+pub has_taken_is : (script : Script) (taken : ℕ) (queues : List Queue) (last : Option ℕ) (waited : List ℕ) (session : ℕ) (x : SessionView) →
     AreQueues script taken queues → session < length queues →
-    has_taken queues session x ≡ is_queued script (record { taken = taken; last = last }) session x
-has_taken_is script taken queues last session x are within = rw (are.each session within) refl
+    has_taken queues session x ≡ is_queued script (record { taken = taken; last = last; waited = waited }) session x
+has_taken_is script taken queues last waited session x are within = rw (are.each session within) refl
 
 -- the queues show who is ready
-pub ready_by_queues : (script : Script) (taken : ℕ) (queues : List Queue) (world : World) (last : Option ℕ) →
+pub ready_by_queues : (script : Script) (taken : ℕ) (queues : List Queue) (world : World) (last : Option ℕ) (waited : List ℕ) →
     AreQueues script taken queues → length world.sessions ≤ length queues →
-    ready_by queues world last ≡ ready script world (record { taken = taken; last = last })
-ready_by_queues script taken queues world last are within =
-    ap (λ o. or_else (continuing world last) o)
+    ready_by queues world last waited ≡ ready script world (record { taken = taken; last = last; waited = waited })
+ready_by_queues script taken queues world last waited are within =
+    ap (λ o. or_else (continuing world last) (or_else (waking world waited) o))
     (lowest_same _ _ (length queues) 0 world.sessions (omega (arith, within))
-    (λ n x lt. ap (λ b. is_idle x.progress && b) (has_taken_is script taken queues last n x are lt)))
+    (λ n x lt. ap (λ b. is_idle x.progress && b) (has_taken_is script taken queues last waited n x are lt)))
 
 -- one line more is taken, of the session or of another
 given_more : (session : ℕ) (lines : List Line) (n : ℕ) (line : Line) → slice_get lines n ≡ Some line →

@@ -1,5 +1,5 @@
 -- What a board shows, and how a step changes it.
-use Rattle.std.specs.Prelude.{ℕ, ◌≡◌, ◌<◌, ◌+◌, ◌*◌, ◌⊎◌, ◌++◌, ◌∷◌, ◌&&◌, [], List, Bool, false, not, nat_lt, length, map, sum_by, unwrap_or, Option, None, Some, Ok, Err}
+use Rattle.std.specs.Prelude.{ℕ, ◌≡◌, ◌<◌, ◌+◌, ◌*◌, ◌⊎◌, ◌++◌, ◌∷◌, ◌&&◌, [], List, Bool, false, not, nat_lt, length, map, unwrap_or, Option, None, Some, Ok, Err}
 use Rattle.std.specs.Option.{option_map_or}
 use Rattle.pg_model.specs.declared.script.Script.{Script}
 use Rattle.pg_model.specs.declared.journal.Entry.{Entry}
@@ -14,6 +14,7 @@ use Rattle.pg_relation.specs.Effect.{effect}
 use Rattle.pg_relation.specs.Moves.{moves_of}
 use Rattle.pg_relation.specs.Schedules.{Schedule, first_schedule, is_closed, is_idle, is_queued, schedule_after}
 use Rattle.pg_relation.specs.Setup.{first_world}
+use Rattle.pg_board.specs.Counts.{most_versions}
 use Rattle.pg_relation.specs.Stepped.{first_of_list}
 
 -- the script, the journal so far, the world that it leaves, which lines were taken, and for each
@@ -41,15 +42,11 @@ tables_read_by board number =
     option_map_or (λ session. tables_of_statement (statement_at board.script number session))
     (session_of board.world number) 0
 
--- how many rows setup has stored
-abbrev pub rows_set_up : Script → ℕ
-rows_set_up script = sum_by (λ table. length table.rows) (first_world script).tables
-
 -- no session may make more steps without an entry than that: one for each table that its statement
 -- reads, one more for each of their versions, and a few
 abbrev pub most_quiet : BoardView → ℕ → ℕ
 most_quiet board number =
-    16 + tables_read_by board number * (1 + (rows_set_up board.script + length board.journal))
+    16 + tables_read_by board number * (1 + most_versions board.script board.journal)
 
 -- the session has ended
 abbrev pub has_ended : BoardView → ℕ → Bool
@@ -88,7 +85,7 @@ pub record HasMoved (number : ℕ) (old new : BoardView) : Type 0 where
   pub journal : new.journal ≡ old.journal ++ record { session = number; act = act } ∷ []
   pub world : new.world ≡ effect old.script old.world (record { session = number; act = act })
   pub schedule : new.schedule
-      ≡ schedule_after old.script old.world old.schedule (record { session = number; act = act })
+      ≡ schedule_after old.schedule (record { session = number; act = act })
 
 -- the session has come nearer to its next entry, and nothing else has changed
 pub record HasComeNearer (number : ℕ) (old new : BoardView) : Type 0 where

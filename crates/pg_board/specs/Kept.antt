@@ -1,5 +1,5 @@
 -- What the acts of sessions make of what a server keeps. All that is not named stays as it was.
-use Rattle.std.specs.Prelude.{ℕ, ◌≡◌, ◌+◌, ◌-◌, ◌<◌, ◌^◌, List, [], length, map, Option, None, Some, Ok}
+use Rattle.std.specs.Prelude.{ℕ, ◌≡◌, ◌+◌, ◌-◌, ◌<◌, ◌^◌, Bool, true, false, IfSome, List, [], length, map, Option, None, Some, Ok}
 use Rattle.std.specs.Option.{option_map_or}
 use Rattle.pg_lists.specs.Numbered.{item_at, with_item}
 use Rattle.pg_xacts.specs.declared.me.Me.{Me}
@@ -14,11 +14,12 @@ use Rattle.pg_world.specs.Candidates.{insert_candidates}
 use Rattle.pg_world.specs.Evaluation.{OrError}
 use Rattle.pg_world.specs.Sessions.{first_running}
 use Rattle.pg_world.specs.Tables.{TransactionEnd, commit, rollback}
-use Rattle.pg_world.specs.Worlds.{World, transactions_after_end}
+use Rattle.pg_waits.specs.Effects.{wait_begun, waits_ended}
+use Rattle.pg_world.specs.Worlds.{World, transactions_after_end, until_end}
 use Rattle.pg_world.specs.declared.session.SessionView.{SessionView}
 use Rattle.pg_relation.specs.Moves.{ending_moves, idle_moves}
 use Rattle.pg_relation.specs.Effect.{block_after, block_failed, me_for, transactions_opened}
-use Rattle.pg_table.specs.States.{TableState, state_ended, state_undone}
+use Rattle.pg_table.specs.States.{OwnStandBehind, TableState, state_ended, state_undone, table_shown}
 use Rattle.pg_board.specs.Counts.{RunsIn}
 use Rattle.pg_board.specs.declared.server.Server.{Server}
 use Rattle.pg_board.specs.declared.session.Machine.{Machine}
@@ -29,6 +30,7 @@ use Rattle.pg_board.specs.declared.session.Session.{Session}
 use Rattle.pg_board.specs.Servers.{kept_session, kept_world}
 use Rattle.pg_relation.specs.Stepped.{first_of_list}
 use Rattle.pg_select.specs.Steps.{new_select}
+use Rattle.pg_update.specs.Steps.{new_change}
 
 -- the server in which a session is kept as given
 abbrev pub with_kept : Server → ℕ → Session → Server
@@ -44,13 +46,14 @@ abbrev pub state_after_end : ℕ → TransactionEnd → TableState → TableStat
 state_after_end xact commit state = state_ended xact state
 state_after_end xact rollback state = state_undone xact state
 
--- the server in which the transaction, where one is open, has ended
-abbrev pub with_end_in : Server → Option ℕ → TransactionEnd → Server
-with_end_in server None end = server
-with_end_in server (Some xact) end =
+-- the server in which the transaction of a session, where one is open, has ended
+abbrev pub with_end_in : Server → ℕ → Option ℕ → TransactionEnd → Server
+with_end_in server number None end = server
+with_end_in server number (Some xact) end =
     record server {
       xacts = transactions_after_end server.xacts xact end;
       tables = map (state_after_end xact end) server.tables;
+      waits = waits_ended server.waits number;
     }
 
 -- the session with no transaction open
@@ -68,6 +71,8 @@ place_ended tag place_of.Closed = place_of.Closed
 abbrev pub machine_for : Statement → Me → SnapshotView → Machine
 machine_for (statement.Select select) me snapshot =
     machine_of.Select (new_select select me snapshot)
+machine_for (statement.Change change) me snapshot =
+    machine_of.Change (new_change change me snapshot)
 machine_for (statement.Insert insert) me snapshot =
     machine_of.Insert (first_running me snapshot.commits (insert_candidates insert))
 machine_for _ me snapshot = machine_of.Insert (first_running me snapshot.commits (Ok []))
@@ -76,6 +81,7 @@ machine_for _ me snapshot = machine_of.Insert (first_running me snapshot.commits
 abbrev pub TakesSnapshot : Statement → Type 0
 TakesSnapshot (statement.Select select) = Unit {0}
 TakesSnapshot (statement.Insert insert) = Unit {0}
+TakesSnapshot (statement.Change change) = Unit {0}
 TakesSnapshot _ = ⊥
 
 -- the session takes its snapshot of all commits so far, and a transaction opens where none is open
@@ -93,13 +99,13 @@ server_snapped server number own session =
 -- the transaction of the session commits
 abbrev pub server_committed : Server → ℕ → Session → Server
 server_committed server number session =
-    with_kept (with_end_in server session.transaction commit) number
+    with_kept (with_end_in server number session.transaction commit) number
     (session_left session (place_ended tag.Commit session.place))
 
 -- the transaction of the session is rolled back
 abbrev pub server_rolled_back : Server → ℕ → Session → Server
 server_rolled_back server number session =
-    with_kept (with_end_in server session.transaction rollback) number
+    with_kept (with_end_in server number session.transaction rollback) number
     (session_left session (place_ended tag.Rollback session.place))
 
 -- the session's statement has its reply
@@ -115,7 +121,7 @@ server_replied server number session given =
 -- the session's statement fails, and its transaction is rolled back
 abbrev pub server_failed : Server → ℕ → Session → Server
 server_failed server number session =
-    with_kept (with_end_in server session.transaction rollback) number
+    with_kept (with_end_in server number session.transaction rollback) number
     (record (session_left session place_of.Idle) {
       answered = session.answered + 1;
       block = block_failed session.block;
@@ -124,23 +130,27 @@ server_failed server number session =
 -- the session ends, and its open transaction is rolled back
 abbrev pub server_closed : Server → ℕ → Session → Server
 server_closed server number session =
-    with_kept (with_end_in server session.transaction rollback) number
+    with_kept (with_end_in server number session.transaction rollback) number
     (session_left session place_of.Closed)
 
 -- what an act that no machine does makes of what the server keeps; a machine does its own
 abbrev pub act_kept : Server → ℕ → Option (OrError Statement) → Session → EntryAct → Server
-act_kept server number (Some (Ok own)) session (entry.Snapped commits) =
-    server_snapped server number own session
-act_kept server number given session (entry.Snapped commits) = server
 act_kept server number given session entry.Committed = server_committed server number session
 act_kept server number given session entry.RolledBack = server_rolled_back server number session
 act_kept server number given session (entry.Replied reply) =
     server_replied server number session reply.tag
 act_kept server number given session (entry.Failed error) = server_failed server number session
 act_kept server number given session entry.Closed = server_closed server number session
-act_kept server number given session (entry.Found candidate) = server
-act_kept server number given session (entry.Placed table row) = server
-act_kept server number given session (entry.Inserted table row) = server
+act_kept server number given session (entry.Waits other) =
+    record server { waits = wait_begun server.waits number (until_end other) }
+act_kept server number (Some (Ok own)) session (entry.Snapped commits) =
+    server_snapped server number own session
+act_kept server number given session _ = server
+
+-- the session waits from that act on
+abbrev pub begins_wait : EntryAct → Bool
+begins_wait (entry.Waits other) = true
+begins_wait _ = false
 
 -- the moves of a session that is in no statement with a snapshot
 abbrev pub outside_moves : World → SessionView → Option (OrError Statement) → Place → List EntryAct
@@ -172,6 +182,19 @@ abbrev pub RunsAt : Server → ℕ → Type 0
 RunsAt server number =
     (session : Session) → item_at server.sessions number ≡ Some session →
     RunsIn server.xacts session.transaction
+
+-- in each row the versions of the transaction, where one is open, stand behind all others
+abbrev pub StandBehind : List TableState → Option ℕ → Type 0
+StandBehind tables transaction =
+    IfSome transaction
+    (λ xact. (number : ℕ) (state : TableState) → item_at tables number ≡ Some state →
+    OwnStandBehind xact (table_shown state))
+
+-- so do those of the open transaction of the session
+abbrev pub StandBehindAt : Server → ℕ → Type 0
+StandBehindAt server number =
+    (session : Session) → item_at server.sessions number ≡ Some session →
+    StandBehind server.tables session.transaction
 
 -- a session in no statement with a snapshot has a move
 pub record CanMove (server : Server) (session : Session) (given : Option (OrError Statement)) :

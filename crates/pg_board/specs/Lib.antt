@@ -2,6 +2,7 @@ pub mod Shown
 pub mod Queues
 pub mod Counts
 pub mod Faults
+pub mod Loaded
 pub mod Servers
 pub mod Kept
 pub mod Machines

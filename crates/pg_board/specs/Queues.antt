@@ -9,7 +9,7 @@ use Rattle.pg_world.specs.Evaluation.{OrError}
 use Rattle.pg_world.specs.declared.session.SessionView.{SessionView}
 use Rattle.pg_world.specs.Worlds.{World}
 use Rattle.pg_relation.specs.Lines.{given_to, statements_given}
-use Rattle.pg_relation.specs.Schedules.{continuing, is_idle, lowest, or_else}
+use Rattle.pg_relation.specs.Schedules.{continuing, is_idle, lowest, or_else, waking}
 use Rattle.pg_board.specs.declared.queues.Queue.{Queue}
 
 -- what the line at a place gives to the session, if it is one of its lines
@@ -49,11 +49,12 @@ has_taken queues number session =
     nat_lt session.answered (option_map_or (λ queue. queue.taken) (item_at queues number) 0)
 
 -- the session that moves next without another line taken, as the queues show it
-abbrev pub ready_by : List Queue → World → Option ℕ → Option ℕ
-ready_by queues world last =
+abbrev pub ready_by : List Queue → World → Option ℕ → List ℕ → Option ℕ
+ready_by queues world last waited =
     or_else (continuing world last)
+    (or_else (waking world waited)
     (lowest (λ number session. is_idle session.progress && has_taken queues number session) 0
-    world.sessions)
+    world.sessions))
 
 -- the queue with one line more taken
 abbrev pub queued_more : Queue → Queue

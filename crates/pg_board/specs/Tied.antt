@@ -5,6 +5,7 @@ use Rattle.pg_model.specs.declared.journal.Entry.{Entry}
 use Rattle.pg_relation.specs.Journals.{IsLegal, world_after}
 use Rattle.pg_board.specs.declared.queues.Queue.{Queue}
 use Rattle.pg_board.specs.declared.server.Server.{Server}
+use Rattle.pg_board.specs.Counts.{HasFew, most_versions}
 use Rattle.pg_board.specs.Faults.{IsSetUp}
 use Rattle.pg_board.specs.Queues.{AreQueues}
 use Rattle.pg_board.specs.Servers.{IsServerOf}
@@ -18,3 +19,4 @@ pub record IsTied (script : Script) (journal : List Entry) (server : Server) (wa
   pub serves : IsServerOf script server (world_after script journal)
   pub queues : AreQueues script count waiting
   pub taken : count ≤ length script.lines
+  pub few : HasFew (most_versions script journal) server

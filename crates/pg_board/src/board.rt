@@ -4,6 +4,7 @@ ghost use Rattle.pg_relation.specs.Laws.{AreClosed};
 ghost use Rattle.pg_relation.specs.Printed.{tables_of};
 ghost use Rattle.pg_relation.specs.Schedules.{line_taken, next_session, ready, settled_schedule};
 ghost use Rattle.pg_board.specs.Board.{MovedBy, first_board, has_ended, is_unqueued, most_quiet, quiet_left, waits_for_lines};
+ghost use Rattle.pg_waits.specs.Slots.{waits_for};
 ghost use Rattle.pg_board.specs.Faults.{IsFaultOf, IsSetUp};
 
 use crate::fault::BoardFault;
@@ -13,6 +14,7 @@ use crate::schedule::{has_queued, ready_session, remaining_session, stands_close
 use crate::server::Server;
 use crate::setup::new_server;
 use crate::step::step_session;
+use crate::turns::moved;
 use pg_lists::Items;
 use pg_model::{Entry, Finished, Script};
 use std::alloc::{AllocError, Global};
@@ -31,6 +33,8 @@ pub enum Step {
     Idle,
     /// The session has ended.
     Closed,
+    /// The session waits for that session's transaction to end.
+    Waiting(u32),
     /// There was no memory for the step.
     Memory,
 }
@@ -45,6 +49,8 @@ pub struct Board<'a> {
     queues: Items<Queue>,
     taken: usize,
     last: Option<u32>,
+    /// Who has begun to wait and has not moved since, in the order in which the waits began.
+    waited: Vec<u32>,
 }
 
 impl<'a> Model for Board<'a> {
@@ -53,6 +59,7 @@ impl<'a> Model for Board<'a> {
     ghost use Rattle.std.specs.Prelude.{map};
     ghost use Rattle.pg_relation.specs.Journals.{world_after};
     ghost use Rattle.pg_board.specs.Board.{BoardView};
+    ghost use Rattle.pg_board.specs.Counts.{most_versions};
     ghost use Rattle.pg_board.specs.Steps.{place_quiet};
     ghost use Rattle.pg_board.specs.Tied.{IsTied};
 
@@ -64,8 +71,9 @@ impl<'a> Model for Board<'a> {
       script = b.script.now;
       journal = b.journal.items;
       world = world_after b.script.now b.journal.items;
-      schedule = record { taken = b.taken; last = b.last };
-      quiet = map (λ session. place_quiet b.server.tables session.place) b.server.sessions;
+      schedule = record { taken = b.taken; last = b.last; waited = b.waited.items };
+      quiet = map (λ session. place_quiet (most_versions b.script.now b.journal.items) session.place)
+          b.server.sessions;
     } };
 
     ghost invariant = { λ b. IsTied b.script.now b.journal.items b.server b.queues b.taken };
@@ -91,6 +99,7 @@ impl<'a> Board<'a> {
             queues,
             taken: 0,
             last: None,
+            waited: Vec::new(alloc),
         })
     }
 
@@ -120,12 +129,16 @@ impl<'a> Board<'a> {
 
         ensures idle { (result ≡ Step.Idle) ↔ IsTrue (waits_for_lines self.old session) }
         ensures closed { (result ≡ Step.Closed) ↔ IsTrue (has_ended self.old session) }
+        ensures waiting { (other : ℕ) → (result ≡ Step.Waiting other)
+            ↔ (waits_for self.old.world.waits session ≡ Some other) }
 
         ensures legal { IsLegal self.new.script self.new.journal }
         ensures reached { self.new.world ≡ world_after self.new.script self.new.journal }
     {
-        let untaken = self.taken < self.script.lines.len();
-        if untaken && self.has_empty_queue(session) {
+        if let Some(other) = self.waits_for(session) {
+            return Step::Waiting(other);
+        }
+        if self.has_untaken() && self.has_empty_queue(session) {
             return Step::Idle;
         }
         if self.has_ended(session) {
@@ -147,7 +160,8 @@ impl<'a> Board<'a> {
 
         ensures within { IfSome result (λ session. session < length self.new.script.sessions) }
         ensures can_move { IfSome result (λ session.
-            (waits_for_lines self.new session ≡ false) × (has_ended self.new session ≡ false)) }
+            (waits_for_lines self.new session ≡ false) × (has_ended self.new session ≡ false)
+            × (waits_for self.new.world.waits session ≡ None)) }
         ensures ended { (result ≡ None) ↔ AreClosed self.old.world }
     {
         self.settle().or(remaining_session(&self.server))
@@ -173,6 +187,17 @@ impl<'a> Board<'a> {
             }
             Err(error) => Err((self, error)),
         }
+    }
+
+    /// The session that a session waits for, if it waits. Who waits is inside a statement.
+    fn waits_for(&self, number: u32) -> Option<u32>
+        ensures session { result ≡ waits_for self.now.world.waits number }
+        ensures inside { IfSome result (λ other.
+            (waits_for_lines self.now number ≡ false) × (has_ended self.now number ≡ false)) }
+        ensures legal { IsLegal self.now.script self.now.journal }
+        ensures reached { self.now.world ≡ world_after self.now.script self.now.journal }
+    {
+        self.server.waits.waits_for(number)
     }
 
     /// Whether the session is between statements without a queued line.
@@ -206,20 +231,23 @@ impl<'a> Board<'a> {
     fn advance(&mut self, number: u32) -> Result<(), AllocError>
         requires within { number < length self.old.script.sessions }
         requires unended { has_ended self.old number ≡ false }
+        requires free { waits_for self.old.world.waits number ≡ None }
         ensures ok { OnOk result (MovedBy number self.old self.new) }
         ensures err { OnErr result (self.new ≡ self.old) }
         ensures legal { IsLegal self.new.script self.new.journal }
         ensures reached { self.new.world ≡ world_after self.new.script self.new.journal }
     {
         self.journal.reserve(1)?;
+        self.waited.reserve(1)?;
         let queues = self.queues.as_slice();
         let acted = step_session(self.alloc, self.script, queues, &mut self.server, number)?;
         if let Some(act) = acted {
+            moved(&mut self.waited, number, &act);
+            self.last = Some(number);
             self.journal.push_reserved(Entry {
                 session: number,
                 act,
             });
-            self.last = Some(number);
         }
         Ok(())
     }
@@ -229,7 +257,12 @@ impl<'a> Board<'a> {
     fn ready(&self) -> Option<u32>
         ensures { result ≡ ready self.now.script self.now.world self.now.schedule }
     {
-        ready_session(&self.server, self.queues.as_slice(), self.last)
+        ready_session(
+            &self.server,
+            self.queues.as_slice(),
+            self.last,
+            self.waited.as_slice(),
+        )
     }
 
     /// Takes lines until a session is ready or no line is left, and answers the session that is

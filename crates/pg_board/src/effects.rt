@@ -1,8 +1,8 @@
-ghost use Rattle.std.specs.Prelude.{◌≡◌, ◌<◌, OnErr, OnOk, Ok, Some, length};
+ghost use Rattle.std.specs.Prelude.{◌≡◌, ◌<◌, OnErr, OnOk, Ok, Some, false, length};
 ghost use Rattle.std.specs.Option.{option_copied};
 ghost use Rattle.pg_model.specs.declared.journal.EntryAct.TheVariants.{Snapped};
 ghost use Rattle.pg_xacts.specs.Snapshots.{WasTakenOf, snapshot_of};
-ghost use Rattle.pg_board.specs.Kept.{CanAnswer, CanBegin, CanCommand, RunsAt, TakesSnapshot, act_kept, at_kept};
+ghost use Rattle.pg_board.specs.Kept.{CanAnswer, CanBegin, CanCommand, RunsAt, StandBehindAt, TakesSnapshot, act_kept, at_kept, begins_wait};
 
 use crate::ends::{answer, close, commit, fail, roll_back};
 use crate::queues::Given;
@@ -27,6 +27,8 @@ pub fn perform(
     requires begun { CanBegin server.old number }
     requires commands { CanCommand server.old number }
     requires runs { RunsAt server.old number }
+    requires behind { StandBehindAt server.old number }
+    requires free { begins_wait act.now ≡ false }
     requires takes { (own : _) (commits : _) → act.now ≡ Snapped commits →
         option_copied given ≡ Some (Ok own) → TakesSnapshot own }
     ensures ok { OnOk result (server.new ≡ at_kept server.old number (λ session.
@@ -47,7 +49,14 @@ pub fn perform(
         EntryAct::Replied(reply) => answer(server, number, reply.tag),
         EntryAct::Failed(_) => fail(server, number),
         EntryAct::Closed => close(server, number),
-        EntryAct::Found(_) | EntryAct::Placed { .. } | EntryAct::Inserted { .. } => {}
+        EntryAct::Found(_)
+        | EntryAct::Locked { .. }
+        | EntryAct::Placed { .. }
+        | EntryAct::Inserted { .. }
+        | EntryAct::Updated { .. }
+        | EntryAct::Deleted { .. }
+        | EntryAct::Passed
+        | EntryAct::Waits(_) => {}
     }
     Ok(())
 }

@@ -3,24 +3,27 @@ ghost use Rattle.pg_lists.specs.Numbered.{item_at};
 ghost use Rattle.pg_relation.specs.Moves.{done_moves};
 ghost use Rattle.pg_relation.specs.Stepped.{first_of_list};
 ghost use Rattle.pg_world.specs.Replies.{reply_of};
-ghost use Rattle.pg_board.specs.Inside.{CanRunAt, HasRun, IsInside, IsInsideAt, IsInsideStep, commits_first};
-ghost use Rattle.pg_board.specs.Kept.{CanAnswer, RunsAt, act_kept};
+ghost use Rattle.pg_board.specs.Inside.{CanRunAt, CanWaitAt, HasRun, IsInside, IsInsideAt, IsInsideStep, commits_first};
+ghost use Rattle.pg_board.specs.Kept.{CanAnswer, RunsAt, StandBehindAt, act_kept};
 ghost use Rattle.pg_board.specs.Machines.{IsPlanned, is_still};
 ghost use Rattle.pg_board.specs.Servers.{IsOfKind, running_of};
 ghost use Rattle.pg_board.specs.declared.session.Place.TheVariants as place_of;
 
+use crate::deadlocks::wait_for;
 use crate::ends::{answer, commit, fail};
 use crate::machines::{machine_reply, step_machine};
 use crate::server::Server;
 use crate::session::{Place, Session};
-use pg_model::{EntryAct, Reply, Statement};
+use pg_model::{EntryAct, Reply, Script, Statement};
 use pg_plans::Act;
 use pg_world::Block;
-use std::alloc::AllocError;
+use std::alloc::{AllocError, Global};
 
 /// A session inside a statement makes its next move, or comes nearer to it: the act that it made,
 /// or `None` for a step without an entry.
 pub fn step_inside(
+    alloc: Global,
+    script: &Script,
     server: &mut Server,
     number: u32,
     statement: &Statement,
@@ -28,16 +31,19 @@ pub fn step_inside(
     requires within { number < length server.old.sessions }
     requires answered { CanAnswer server.old number }
     requires runs { RunsAt server.old number }
+    requires behind { StandBehindAt server.old number }
     requires inside { IsInsideAt server.old number }
     requires ready { CanRunAt server.old number statement.now }
+    requires waits { CanWaitAt server.old number statement.now }
     ensures ok { IfOk result (λ acted. (session : _) →
         item_at server.old.sessions number ≡ Some session →
-        IsInsideStep server.old server.new number statement.now session acted) }
+        IsInsideStep script.now server.old server.new number statement.now session acted) }
     ensures err { OnErr result (server.new ≡ server.old) }
 {
     match run_machine(server, number, statement) {
         Act::Entry(act) => Ok(Some(act)),
         Act::Quiet => Ok(None),
+        Act::Blocked(on) => Ok(Some(wait_for(alloc, script, server, number, on)?)),
         Act::Failed(error) => {
             fail(server, number);
             Ok(Some(EntryAct::Failed(error)))

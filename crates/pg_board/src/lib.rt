@@ -3,6 +3,7 @@
 #![tactic(auto)]
 
 mod board;
+mod deadlocks;
 mod effects;
 mod ends;
 mod fault;
@@ -18,6 +19,7 @@ mod setup;
 mod snapshots;
 mod step;
 mod tables;
+mod turns;
 
 pub use board::{Board, Step};
 pub use fault::BoardFault;

@@ -11,6 +11,7 @@ use pg_xacts::Xacts;
 use std::alloc::AllocError;
 
 /// A machine makes its next step over the tables and transactions.
+#[tactic(auto, using(crate::proofs::MachineKinds::insert_steps, crate::proofs::MachineKinds::select_steps, crate::proofs::MachineKinds::change_steps))]
 pub fn step_machine(
     machine: &mut Machine,
     statement: &Statement,
@@ -30,6 +31,9 @@ pub fn step_machine(
         (Machine::Select(machine), Statement::Select(select)) => machine.step(
             select, tables, xacts,
         ),
+        (Machine::Change(machine), Statement::Change(change)) => machine.step(
+            change, tables, xacts,
+        ),
         _ => unreachable!(),
     }
 }
@@ -47,6 +51,10 @@ pub fn machine_reply(machine: &Machine, statement: &Statement) -> Result<Reply, 
         }
         (Machine::Select(machine), Statement::Select(_)) => {
             let reply = machine.reply()?;
+            Ok(reply)
+        }
+        (Machine::Change(machine), Statement::Change(change)) => {
+            let reply = machine.reply(change)?;
             Ok(reply)
         }
         _ => unreachable!(),

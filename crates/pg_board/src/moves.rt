@@ -86,7 +86,7 @@ fn beginning_act(
         Ok(Statement::Begin) => Ok(bare_reply(alloc, Tag::Begin)),
         Ok(Statement::Commit) => Ok(commit_act(alloc, session.block, session.transaction)),
         Ok(Statement::Rollback) => Ok(rollback_act(alloc, session.transaction)),
-        Ok(Statement::Select(_) | Statement::Insert(_)) => {
+        Ok(Statement::Select(_) | Statement::Insert(_) | Statement::Change(_)) => {
             Ok(EntryAct::Snapped(server.xacts.commits()))
         }
         Err(error) => Ok(EntryAct::Failed(error.try_copy(alloc)?)),

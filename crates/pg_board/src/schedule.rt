@@ -1,5 +1,5 @@
 ghost use Rattle.std.specs.Prelude.{◌≡◌, ◌≤◌, ◌<◌, ◌&&◌, IsTrue, None, length, map, true};
-ghost use Rattle.pg_relation.specs.Schedules.{continuing, is_closed, is_idle, is_inside, lowest, remaining};
+ghost use Rattle.pg_relation.specs.Schedules.{continuing, is_closed, is_going_on, is_idle, is_inside, lowest, remaining, waking};
 ghost use Rattle.pg_board.specs.Queues.{has_taken, ready_by};
 ghost use Rattle.pg_board.specs.Servers.{kept_progress, kept_session, kept_world};
 
@@ -28,17 +28,38 @@ fn stands_inside(session: &Session) -> bool
     matches!(session.place, Place::Inside(_) | Place::Ending(_))
 }
 
-/// The session that moved last, where it is inside a statement.
+/// Whether the session of a number is inside a statement and does not wait.
+fn goes_on(server: &Server, number: u32) -> bool
+    ensures { result ≡ is_going_on (kept_world server.now) number }
+{
+    match server.sessions.get(number as usize) {
+        Some(session) => stands_inside(session) && server.waits.waits_for(number).is_none(),
+        None => false,
+    }
+}
+
+/// The session that moved last, where it is inside a statement and does not wait.
 fn continuing_session(server: &Server, last: Option<u32>) -> Option<u32>
     ensures { result ≡ continuing (kept_world server.now) last }
 {
     let number = last?;
-    let session = server.sessions.get(number as usize)?;
-    if stands_inside(session) {
+    if goes_on(server, number) {
         Some(number)
     } else {
         None
     }
+}
+
+/// Of those that have waited and have not moved since, the first that waits no more.
+fn waking_session(server: &Server, waited: &[u32]) -> Option<u32>
+    ensures { result ≡ waking (kept_world server.now) waited.now }
+{
+    for number in waited {
+        if goes_on(server, *number) {
+            return Some(*number);
+        }
+    }
+    None
 }
 
 /// The lowest session between two statements.
@@ -55,15 +76,16 @@ fn lowest_idle(sessions: &[Session]) -> Option<u32>
     None
 }
 
-/// The lowest session inside a statement.
-fn lowest_inside(sessions: &[Session]) -> Option<u32>
-    requires { length sessions.now ≤ 32 }
-    ensures { result ≡ lowest (λ number session. is_inside session.progress) 0
-        (map kept_session sessions.now) }
+/// The lowest session that is inside a statement and does not wait.
+#[tactic(auto, using(crate::proofs::Scheduling::lowest_here, crate::proofs::Scheduling::lowest_past, crate::proofs::Scheduling::lowest_end))]
+fn lowest_going_on(server: &Server) -> Option<u32>
+    requires { length server.now.sessions ≤ 32 }
+    ensures { result ≡ lowest (λ number session. is_going_on (kept_world server.now) number) 0
+        (map kept_session server.now.sessions) }
 {
-    for (number, session) in sessions.iter().enumerate() {
-        if stands_inside(session) {
-            return Some(number as u32);
+    for number in 0..server.sessions.len() as u32 {
+        if goes_on(server, number) {
+            return Some(number);
         }
     }
     None
@@ -95,14 +117,18 @@ fn lowest_queued(sessions: &[Session], queues: &[Queue]) -> Option<u32>
 }
 
 /// The session that moves next without another line taken.
-pub fn ready_session(server: &Server, queues: &[Queue], last: Option<u32>) -> Option<u32>
+pub fn ready_session(
+    server: &Server,
+    queues: &[Queue],
+    last: Option<u32>,
+    waited: &[u32],
+) -> Option<u32>
     requires { length server.now.sessions ≤ 32 }
-    ensures { result ≡ ready_by queues.now (kept_world server.now) last }
+    ensures { result ≡ ready_by queues.now (kept_world server.now) last waited.now }
 {
-    match continuing_session(server, last) {
-        Some(number) => Some(number),
-        None => lowest_queued(server.sessions.as_slice(), queues),
-    }
+    continuing_session(server, last)
+        .or(waking_session(server, waited))
+        .or(lowest_queued(server.sessions.as_slice(), queues))
 }
 
 /// The session that moves next where no line is left to take.
@@ -112,6 +138,6 @@ pub fn remaining_session(server: &Server) -> Option<u32>
 {
     match lowest_idle(server.sessions.as_slice()) {
         Some(number) => Some(number),
-        None => lowest_inside(server.sessions.as_slice()),
+        None => lowest_going_on(server),
     }
 }

@@ -4,14 +4,16 @@ ghost use Rattle.pg_lists.specs.Numbered.{item_at};
 use crate::session::Session;
 use pg_lists::Items;
 use pg_table::TableSet;
+use pg_waits::Waits;
 use pg_xacts::Xacts;
 
-/// The tables, transactions and sessions as a journal leaves them.
+/// The tables, transactions, sessions and waits as a journal leaves them.
 #[derive(Drop)]
 pub struct Server {
     pub tables: TableSet,
     pub xacts: Xacts,
     pub sessions: Items<Session>,
+    pub waits: Waits,
 }
 
 impl Server {

@@ -1,6 +1,7 @@
 use pg_insert::Insert;
 use pg_model::Tag;
 use pg_select::Select;
+use pg_update::Change;
 use pg_world::Block;
 
 /// The machine of an open statement.
@@ -8,6 +9,7 @@ use pg_world::Block;
 pub enum Machine {
     Insert(Insert),
     Select(Select),
+    Change(Change),
 }
 
 /// Where a session stands.

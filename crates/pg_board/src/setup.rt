@@ -2,7 +2,7 @@ ghost use Rattle.std.specs.Prelude.{◌≡◌, ◌+◌, IfErr, IfOk, Ok, OnOk, m
 ghost use Rattle.pg_world.specs.Candidates.{insert_candidates as candidates_of};
 ghost use Rattle.pg_relation.specs.Setup.{setup_outcome, tables_inserted};
 ghost use Rattle.pg_board.specs.Faults.{IsFaultIn, IsFaultOf, IsSetUp};
-ghost use Rattle.pg_scans.specs.Readings.{AreTables};
+ghost use Rattle.pg_board.specs.Loaded.{AreLoaded};
 ghost use Rattle.pg_board.specs.Servers.{IsFirst, first_session};
 ghost use Rattle.pg_board.specs.Shown.{tables_shown};
 
@@ -15,6 +15,7 @@ use pg_model::{Script, SetupInsert};
 use pg_names::Names;
 use pg_plans::{PlanFault, insert_candidates};
 use pg_table::TableSet;
+use pg_waits::Waits;
 use pg_world::Block;
 use pg_xacts::Xacts;
 use std::alloc::{AllocError, Global};
@@ -23,16 +24,17 @@ use std::alloc::{AllocError, Global};
 #[tactic(auto, using(crate::proofs::Setups::tables_set), unfolding(pg_relation::specs::Setup::setup_outcome))]
 pub fn new_server(alloc: Global, script: &Script) -> Result<Server, BoardFault>
     ensures ok { IfOk result (λ server. IsFirst script.now server) }
-    ensures valid { IfOk result (λ server. AreTables server.tables) }
     ensures set_up { OnOk result (IsSetUp script.now) }
     ensures fault { IfErr result (IsFaultOf script.now) }
 {
     let tables = set_up_tables(alloc, script)?;
     let sessions = first_sessions(alloc, &script.sessions)?;
+    let waits = Waits::new(alloc, script.sessions.len() as u32)?;
     Ok(Server {
         tables,
         xacts: Xacts::new(alloc),
         sessions,
+        waits,
     })
 }
 
@@ -40,7 +42,7 @@ pub fn new_server(alloc: Global, script: &Script) -> Result<Server, BoardFault>
 #[tactic(auto, unfolding(pg_relation::specs::Setup::setup_outcome))]
 fn set_up_tables(alloc: Global, script: &Script) -> Result<TableSet, BoardFault>
     ensures ok { IfOk result (λ tables. setup_outcome script.now ≡ Ok (tables_shown tables)) }
-    ensures valid { IfOk result AreTables }
+    ensures loaded { IfOk result AreLoaded }
     ensures fault { IfErr result (IsFaultOf script.now) }
 {
     let mut tables = empty_tables(alloc, &script.catalogue)?;
@@ -52,10 +54,10 @@ fn set_up_tables(alloc: Global, script: &Script) -> Result<TableSet, BoardFault>
 
 /// Runs a setup INSERT: its rows are evaluated first, and then all are added.
 fn run_setup(alloc: Global, tables: &mut TableSet, setup: &SetupInsert) -> Result<(), BoardFault>
-    requires { AreTables tables.old }
+    requires { AreLoaded tables.old }
     ensures ok { OnOk result (tables_inserted (tables_shown tables.old) setup.now
         (candidates_of setup.now.insert) ≡ Ok (tables_shown tables.new)) }
-    ensures valid { OnOk result (AreTables tables.new) }
+    ensures loaded { OnOk result (AreLoaded tables.new) }
     ensures fault { IfErr result (IsFaultIn (tables_inserted (tables_shown tables.old) setup.now
         (candidates_of setup.now.insert))) }
 {

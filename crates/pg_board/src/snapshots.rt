@@ -9,6 +9,7 @@ use crate::session::{Machine, Place, Session};
 use pg_insert::Insert;
 use pg_model::Statement;
 use pg_select::Select;
+use pg_update::Change;
 use pg_xacts::{Me, Snapshot, Xacts};
 use std::alloc::{AllocError, Global};
 
@@ -93,6 +94,7 @@ fn machine_for(
             me,
             snapshot.commits(),
         )?)),
+        Statement::Change(change) => Ok(Machine::Change(Change::new(alloc, change, me, snapshot)?)),
         Statement::Begin | Statement::Commit | Statement::Rollback => unreachable!(),
     }
 }

@@ -1,11 +1,12 @@
-ghost use Rattle.std.specs.Prelude.{◌≡◌, ◌<◌, IfOk, IfSome, Ok, OnErr, Some, false, length};
+ghost use Rattle.std.specs.Prelude.{◌≡◌, ◌<◌, IfOk, IfSome, None, Ok, OnErr, Some, false, length};
 ghost use Rattle.std.specs.Option.{option_copied};
 ghost use Rattle.pg_lists.specs.Numbered.{item_at};
 ghost use Rattle.pg_relation.specs.Journals.{IsLegal, world_after};
 ghost use Rattle.pg_board.specs.Inside.{CanRunGiven, GivesStatement, IsInsideStep, is_place_inside};
-ghost use Rattle.pg_board.specs.Kept.{CanAnswer, CanBegin, CanCommand, CanMove, HasMovedOutside, RunsAt};
+ghost use Rattle.pg_board.specs.Kept.{CanAnswer, CanBegin, CanCommand, CanMove, HasMovedOutside, RunsAt, StandBehindAt};
 ghost use Rattle.pg_board.specs.Queues.{places_of};
 ghost use Rattle.pg_board.specs.Servers.{IsServerOf};
+ghost use Rattle.pg_waits.specs.Slots.{wait_of};
 ghost use Rattle.pg_board.specs.Steps.{IsServing, IsStepIn, stands_at_end};
 
 use crate::effects::perform;
@@ -32,6 +33,7 @@ pub fn step_session(
     requires there { number < length queues.now }
     requires serves { IsServing script.now server.old }
     requires unended { stands_at_end server.old number ≡ false }
+    requires free { wait_of server.old.waits number ≡ None }
     ensures step { IfOk result (λ acted. (journal : _) → IsLegal script.now journal →
         IsServerOf script.now server.old (world_after script.now journal) →
         IsStepIn script.now number (world_after script.now journal) server.old server.new acted) }
@@ -39,7 +41,7 @@ pub fn step_session(
 {
     let given = statement_in(script, queues, server, number);
     if has_snapshot(server, number) {
-        step_statement(server, number, given)
+        step_statement(alloc, script, server, number, given)
     } else {
         Ok(Some(step_outside(alloc, server, number, given)?))
     }
@@ -57,6 +59,8 @@ fn has_snapshot(server: &Server, number: u32) -> bool
 /// A session inside the statement given makes its next move, or comes nearer to it.
 #[tactic(auto, using(crate::proofs::Running::run_given))]
 fn step_statement(
+    alloc: Global,
+    script: &Script,
     server: &mut Server,
     number: u32,
     given: Option<&Given>,
@@ -64,15 +68,16 @@ fn step_statement(
     requires within { number < length server.old.sessions }
     requires answered { CanAnswer server.old number }
     requires runs { RunsAt server.old number }
+    requires behind { StandBehindAt server.old number }
     requires ready { CanRunGiven server.old number (option_copied given) }
     ensures ok { IfOk result (λ acted. (session : _) (own : _) →
         item_at server.old.sessions number ≡ Some session →
         option_copied given.entry ≡ Some (Ok own) →
-        IsInsideStep server.old server.new number own session acted) }
+        IsInsideStep script.now server.old server.new number own session acted) }
     ensures err { OnErr result (server.new ≡ server.old) }
 {
     let statement = statement_given(given);
-    step_inside(server, number, statement)
+    step_inside(alloc, script, server, number, statement)
 }
 
 /// The statement that is given.
@@ -99,6 +104,7 @@ fn step_outside(
     requires begun { CanBegin server.old number }
     requires commands { CanCommand server.old number }
     requires runs { RunsAt server.old number }
+    requires behind { StandBehindAt server.old number }
     requires can_move { (session : _) → item_at server.old.sessions number ≡ Some session →
         CanMove server.old session (option_copied given) }
     ensures ok { IfOk result (λ act. (session : _) →

@@ -2,10 +2,10 @@
 
 ghost use Rattle.std.specs.Prelude.{◌≡◌, IfOk, OnOk, map};
 ghost use Rattle.pg_lists.specs.Numbered.{with_changed_item};
-ghost use Rattle.pg_scans.specs.Readings.{AreTables};
-ghost use Rattle.pg_table.specs.States.{IsTable, table_shown};
+ghost use Rattle.pg_table.specs.States.{table_shown};
 ghost use Rattle.pg_world.specs.Tables.{empty_table, row_added};
 ghost use Rattle.pg_relation.specs.Setup.{rows_added, setup_me};
+ghost use Rattle.pg_board.specs.Loaded.{AreLoaded, IsLoaded};
 ghost use Rattle.pg_board.specs.Shown.{tables_shown};
 
 use pg_lists::{Items, TryCopy};
@@ -17,11 +17,11 @@ use pg_xacts::Me;
 use std::alloc::{AllocError, Global};
 
 /// The empty tables of a catalogue.
-#[tactic(auto, using(crate::proofs::Shown::shown_empty, crate::proofs::Valid::empty_tables))]
+#[tactic(auto, using(crate::proofs::Shown::shown_empty, crate::proofs::Loading::empty_loaded))]
 pub fn empty_tables(alloc: Global, catalogue: &Catalogue) -> Result<TableSet, AllocError>
     ensures shown { IfOk result (λ tables. tables_shown tables
         ≡ map (λ shape. empty_table) catalogue.now) }
-    ensures valid { IfOk result AreTables }
+    ensures loaded { IfOk result AreLoaded }
 {
     TableSet::new(alloc, catalogue)
 }
@@ -33,10 +33,10 @@ pub fn add_rows_in(
     table: u32,
     candidates: &[Candidate],
 ) -> Result<(), AllocError>
-    requires { AreTables tables.old }
+    requires { AreLoaded tables.old }
     ensures shown { OnOk result (tables_shown tables.new
         ≡ with_changed_item (rows_added candidates.now) (tables_shown tables.old) table) }
-    ensures valid { OnOk result (AreTables tables.new) }
+    ensures loaded { OnOk result (AreLoaded tables.new) }
 {
     if let Some(table) = tables.get_mut(table as usize) {
         add_rows(alloc, table, candidates)?;
@@ -48,7 +48,7 @@ pub fn add_rows_in(
 fn add_rows(alloc: Global, table: &mut Table, candidates: &[Candidate]) -> Result<(), AllocError>
     ensures shown { OnOk result (table_shown table.new
         ≡ rows_added candidates.now (table_shown table.old)) }
-    ensures valid { OnOk result (IsTable table.old → IsTable table.new) }
+    ensures loaded { OnOk result (IsLoaded table.old → IsLoaded table.new) }
 {
     for candidate in candidates {
         add_row(table, candidate.made.try_copy(alloc)?)?;
@@ -60,7 +60,7 @@ fn add_rows(alloc: Global, table: &mut Table, candidates: &[Candidate]) -> Resul
 fn add_row(table: &mut Table, values: Values) -> Result<(), AllocError>
     ensures shown { OnOk result (table_shown table.new
         ≡ row_added (table_shown table.old) setup_me values) }
-    ensures valid { OnOk result (IsTable table.new) }
+    ensures loaded { OnOk result (IsLoaded table.old → IsLoaded table.new) }
 {
     table.add(setup_writer(), values)?;
     Ok(())

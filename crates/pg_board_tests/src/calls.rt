@@ -79,6 +79,62 @@ a replied SELECT 1 (1)
 a closed
 
 rc 1 stepped
+setup: CREATE TABLE t (k integer)
+setup: INSERT INTO t VALUES (1)
+a: BEGIN
+a: UPDATE t SET k = 2
+b: UPDATE t SET k = 3
+a: COMMIT
+=>
+next a
+a moved
+next a
+a moved
+a moved
+a moved
+a moved
+a moved
+next b
+b moved
+b moved
+b moved
+b waiting
+next a
+b waiting
+a moved
+b moved
+next b
+a moved
+next a
+b moved
+next b
+b moved
+b moved
+next a
+a moved
+a closed
+b moved
+next nobody
+=>
+a replied BEGIN
+a snapped 0
+a found 1
+a locked t 1 no key update
+a updated t 1
+a replied UPDATE 1
+b snapped 0
+b found 1
+b waits a
+a committed
+b locked t 1 no key update
+a replied COMMIT
+b updated t 1
+b committed
+b replied UPDATE 1
+a closed
+b closed
+
+rc 1 stepped
 =>
 next nobody
 =>";
@@ -88,6 +144,7 @@ fn word(step: Step, has_entry: bool) -> Option<&'static str> {
     match step {
         Step::Idle => Some("idle"),
         Step::Closed => Some("closed"),
+        Step::Waiting(_) => Some("waiting"),
         Step::Memory => Some("out of memory"),
         _ if has_entry => Some("moved"),
         _ => None,

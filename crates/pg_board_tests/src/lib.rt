@@ -6,4 +6,6 @@ mod calls;
 #[cfg(test)]
 mod cases;
 #[cfg(test)]
+mod changes;
+#[cfg(test)]
 mod runs;

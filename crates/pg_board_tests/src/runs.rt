@@ -310,7 +310,10 @@ fn is_run_otherwise(alloc: Global, case: &str) -> Result<Option<String>, AllocEr
 }
 
 /// The first case that is run otherwise than it wants, and what that leaves.
-fn first_wrong(alloc: Global, cases: &str) -> Result<Option<(&str, String)>, AllocError> {
+pub(crate) fn first_wrong(
+    alloc: Global,
+    cases: &str,
+) -> Result<Option<(&str, String)>, AllocError> {
     for case in cases.split("\n\n") {
         if let Some(got) = is_run_otherwise(alloc, case)? {
             return Ok(Some((case, got)));

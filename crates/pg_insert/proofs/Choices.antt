@@ -4,7 +4,8 @@ use Rattle.std.proofs.lemmas.Option.{slice_get-map}
 use Rattle.pg_lists.specs.Numbered.{item_at}
 use Rattle.pg_model.specs.declared.journal.EntryAct.TheVariants as entry
 use Rattle.pg_rows.proofs.Rows.{length_rows}
-use Rattle.pg_world.specs.Choices.{does, placing_choices}
+use Rattle.pg_world.specs.Choices.{placing_choices}
+use Rattle.pg_world.specs.Choosing.{does}
 use Rattle.pg_table.specs.States.{TableState, table_shown}
 
 -- the number that a table has drawn is the one that is permitted

@@ -1,20 +1,20 @@
--- A step of an INSERT: what its answer says of its choices, and what the machine and the tables are
--- then. All that is not named stays as it was.
-use Rattle.std.specs.Prelude.{◌≡◌, ◌+◌, ◌≤◌, List, [], ◌∷◌, map}
+-- A step of an INSERT: its choices, and what the machine and the tables are behind its answer. All
+-- that is not named stays as it was.
+use Rattle.std.specs.Prelude.{◌+◌, ◌≤◌, List, map}
 use Rattle.pg_lists.specs.Numbered.{with_changed_item}
 use Rattle.pg_xacts.specs.Transactions.{Transactions}
-use Rattle.pg_model.specs.declared.error.SqlError.{SqlError}
 use Rattle.pg_model.specs.declared.journal.EntryAct.{EntryAct}
 use Rattle.pg_model.specs.declared.journal.EntryAct.TheVariants as entry
 use Rattle.pg_model.specs.declared.statement.Insert.{Insert}
 use Rattle.pg_model.specs.declared.statement.Statement.TheVariants as statement
-use Rattle.pg_world.specs.Choices.{Choice, choices, does, fails}
+use Rattle.pg_world.specs.Choices.{choices}
+use Rattle.pg_world.specs.Choosing.{Choice}
 use Rattle.pg_world.specs.Replies.{proposed_values}
 use Rattle.pg_world.specs.declared.session.Running.{Running}
 use Rattle.pg_table.specs.States.{TableState, row_inserted_in, row_placed_in, table_shown}
 use Rattle.pg_plans.specs.declared.act.Act.{Act}
 use Rattle.pg_plans.specs.declared.act.Act.TheVariants as answer
-use Rattle.pg_relation.specs.Effect.{running_acted, running_found, running_placed}
+use Rattle.pg_relation.specs.Running.{running_after_act}
 use Rattle.pg_relation.specs.Weight.{under_way_count}
 
 -- what an INSERT may do next, by what the tables show
@@ -22,32 +22,11 @@ abbrev pub insert_choices_in : Insert → List TableState → Transactions → R
 insert_choices_in insert tables transactions running =
     choices (statement.Insert insert) (map table_shown tables) transactions running
 
--- The answer is the only choice: an act, or the error that the statement fails with; the statement
--- is done where there is none. Each step has an entry, so none is quiet.
-abbrev pub IsAnswer : List Choice → Act → Type 0
-IsAnswer given (answer.Entry act) = given ≡ does act ∷ []
-IsAnswer given (answer.Failed error) = given ≡ fails error ∷ []
-IsAnswer given answer.Done = given ≡ []
-IsAnswer given answer.Memory = Unit {0}
-IsAnswer given answer.Quiet = ⊥
-
--- a statement fails with that error, where there is memory for it
-abbrev pub IsFailure : SqlError → Act → Type 0
-IsFailure error (answer.Failed given) = given ≡ error
-IsFailure error answer.Memory = Unit {0}
-IsFailure error _ = ⊥
-
--- the statement behind an act: what the act's entry makes of it
-abbrev pub running_after_act : EntryAct → Running → Running
-running_after_act (entry.Found candidate) running = running_found candidate running
-running_after_act (entry.Placed table row) running = running_placed row running
-running_after_act (entry.Inserted table row) running = running_acted running
-running_after_act _ running = running
-
 -- the statement behind an answer
-abbrev pub running_after : Act → Running → Running
-running_after (answer.Entry act) running = running_after_act act running
-running_after _ running = running
+abbrev pub running_after : List TableState → Transactions → Act → Running → Running
+running_after tables transactions (answer.Entry act) running =
+    running_after_act (map table_shown tables) transactions act running
+running_after tables transactions _ running = running
 
 -- the tables behind an act: the proposed row is placed, or what was placed is stored
 abbrev pub tables_after_act : EntryAct → Running → List TableState → List TableState

@@ -10,7 +10,7 @@ use Rattle.pg_model.specs.declared.journal.EntryAct.TheVariants as act
 use Rattle.pg_model.specs.declared.journal.Reply.{Reply}
 use Rattle.pg_model.specs.declared.script.Script.{Script}
 use Rattle.pg_model.specs.Errors.{error_state, error_text}
-use Rattle.pg_model.specs.Texts.{with_line_end, row_text, tag_text}
+use Rattle.pg_model.specs.Texts.{with_line_end, row_text, strength_text, tag_text}
 
 -- the name of the session of that number, and of the table; a number that names none has the empty name
 abbrev pub session_name : Script → ℕ → List ℕ
@@ -35,7 +35,12 @@ abbrev pub act_text : List ℕ → EntryAct → List ℕ
 act_text name (act.Snapped commits) = []
 act_text name (act.Found number) = []
 act_text name (act.Placed table row) = []
+act_text name (act.Locked table row strength) = []
 act_text name (act.Inserted table row) = []
+act_text name (act.Updated table row) = []
+act_text name (act.Deleted table row) = []
+act_text name act.Passed = []
+act_text name (act.Waits other) = []
 act_text name act.Committed = []
 act_text name act.RolledBack = []
 act_text name (act.Replied reply) = reply_text name reply
@@ -68,8 +73,14 @@ row_words script done table row = done ++ codes " " ++ table_name script table +
 abbrev pub act_words : Script → EntryAct → List ℕ
 act_words script (act.Snapped commits) = codes "snapped " ++ decimal commits
 act_words script (act.Found number) = codes "found " ++ decimal number
+act_words script (act.Locked table row strength) =
+    row_words script (codes "locked") table row ++ codes " " ++ strength_text strength
 act_words script (act.Placed table row) = row_words script (codes "placed") table row
 act_words script (act.Inserted table row) = row_words script (codes "inserted") table row
+act_words script (act.Updated table row) = row_words script (codes "updated") table row
+act_words script (act.Deleted table row) = row_words script (codes "deleted") table row
+act_words script act.Passed = codes "passed"
+act_words script (act.Waits other) = codes "waits " ++ session_name script other
 act_words script act.Committed = codes "committed"
 act_words script act.RolledBack = codes "rolled back"
 act_words script (act.Replied reply) =

@@ -10,6 +10,10 @@ use Rattle.pg_names.specs.Names.{are_distinct}
 use Rattle.pg_model.specs.declared.catalogue.Check.{Check}
 use Rattle.pg_model.specs.declared.catalogue.Column.{Column}
 use Rattle.pg_model.specs.declared.catalogue.TableShape.{TableShape}
+use Rattle.pg_model.specs.declared.statement.Action.{Action}
+use Rattle.pg_model.specs.declared.statement.Action.TheVariants as action
+use Rattle.pg_model.specs.declared.statement.Assignment.{Assignment}
+use Rattle.pg_model.specs.declared.statement.Change.{Change}
 use Rattle.pg_model.specs.declared.statement.Insert.{Insert}
 use Rattle.pg_model.specs.declared.statement.NamedTable.{NamedTable}
 use Rattle.pg_model.specs.declared.statement.Select.{Select}
@@ -88,7 +92,29 @@ pub record IsInsert (catalogue : List TableShape) (insert : Insert) : Type 0 whe
   pub columns : list_all (λ number. nat_lt number (length insert.target.shape.columns)) insert.columns ≡ true
   pub rows : list_all (is_row insert.target.shape.columns insert.columns) insert.rows ≡ true
 
--- a SELECT and an INSERT fit the catalogue; BEGIN, COMMIT and ROLLBACK always do
+-- the kinds of the columns that an UPDATE or DELETE knows: those of its target, and of its sources
+abbrev pub change_kinds : Change → List (List (Option Kind))
+change_kinds change = kinds_of change.target.shape.columns ∷ map source_kinds change.sources
+
+-- there is a column of that number, and the value may be stored there
+abbrev pub is_assignment : List (List (Option Kind)) → List Column → Assignment → Bool
+is_assignment kinds columns assignment =
+    option_map_or (λ kind. is_stored kind kinds assignment.value) (column_kind columns assignment.column) false
+
+-- what a SET list names are columns that may store its values
+abbrev pub is_action : List (List (Option Kind)) → List Column → Action → Bool
+is_action kinds columns (action.Set assignments) = list_all (is_assignment kinds columns) assignments
+is_action kinds columns action.Delete = true
+
+-- target and sources are the catalogue's, and action and condition fit over them
+pub record IsChange (catalogue : List TableShape) (change : Change) : Type 0 where
+  pub target : IsTableOf catalogue change.target
+  pub sources : All (IsSource catalogue) change.sources
+  pub action : is_action (change_kinds change) change.target.shape.columns change.action ≡ true
+  pub condition : is_where (change_kinds change) change.condition ≡ true
+
+-- a SELECT, an INSERT, an UPDATE and a DELETE fit the catalogue; BEGIN, COMMIT and ROLLBACK always do
 pub record IsStatement (catalogue : List TableShape) (given : Statement) : Type 0 where
   pub selects : (select : Select) → given ≡ statement.Select select → IsSelect catalogue select
   pub inserts : (insert : Insert) → given ≡ statement.Insert insert → IsInsert catalogue insert
+  pub changes : (change : Change) → given ≡ statement.Change change → IsChange catalogue change

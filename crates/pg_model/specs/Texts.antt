@@ -4,6 +4,8 @@ use Rattle.std.specs.Fmt.{signed_decimal}
 use Rattle.std.specs.List.{join_with_byte}
 use Rattle.pg_values.specs.declared.value.Value.{Value}
 use Rattle.pg_values.specs.declared.value.Value.TheVariants.{Null, Bool as OfBool, Int, Big, Text}
+use Rattle.pg_multi.specs.declared.strength.Strength.{Strength}
+use Rattle.pg_multi.specs.declared.strength.Strength.TheVariants.{KeyShare, NoKeyUpdate, Share, Update}
 use Rattle.pg_model.specs.declared.journal.Tag.{Tag}
 use Rattle.pg_model.specs.declared.journal.Tag.TheVariants as tag
 
@@ -34,4 +36,13 @@ tag_text tag.Begin = codes "BEGIN"
 tag_text tag.Commit = codes "COMMIT"
 tag_text tag.Rollback = codes "ROLLBACK"
 tag_text (tag.Insert rows) = codes "INSERT 0 " ++ decimal rows
+tag_text (tag.Update rows) = codes "UPDATE " ++ decimal rows
+tag_text (tag.Delete rows) = codes "DELETE " ++ decimal rows
 tag_text (tag.Select rows) = codes "SELECT " ++ decimal rows
+
+-- the strength of a row lock
+abbrev pub strength_text : Strength → List ℕ
+strength_text KeyShare = codes "key share"
+strength_text Share = codes "share"
+strength_text NoKeyUpdate = codes "no key update"
+strength_text Update = codes "update"

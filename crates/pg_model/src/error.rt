@@ -1,4 +1,4 @@
-use pg_lists::{IsSame, TryCopy};
+use pg_lists::{IsSame, Items, TryCopy};
 use pg_names::Name;
 use std::alloc::{AllocError, Global};
 
@@ -8,6 +8,9 @@ pub enum Counted {
     Tables,
     Columns,
 }
+
+/// Names of sessions.
+pub type SessionNames = Items<Name>;
 
 /// An error of a statement, in PostgreSQL's terms. Each has a state of five digits and letters and
 /// a text, which `docs/errors.md` lists.
@@ -23,6 +26,8 @@ pub enum SqlError {
     NoColumn(Name),
     /// 42701: a list of columns has that name twice.
     ColumnTwice(Name),
+    /// 42601: a SET list has that name twice.
+    SetTwice(Name),
     /// 42702: columns of several sources have that name.
     Ambiguous(Name),
     /// 42601: a row has too few or too many expressions.
@@ -43,6 +48,9 @@ pub enum SqlError {
     BigRange,
     /// 22012: division by zero.
     ZeroDivisor,
+    /// 40P01: the session's wait would close a cycle of sessions of these names, of which each waits
+    /// for the next, and the last for the first. The first is the session itself.
+    Deadlock(SessionNames),
 }
 
 impl TryCopy for SqlError {
@@ -53,6 +61,7 @@ impl TryCopy for SqlError {
             SqlError::SameAlias(name) => SqlError::SameAlias(name.try_copy(alloc)?),
             SqlError::NoColumn(name) => SqlError::NoColumn(name.try_copy(alloc)?),
             SqlError::ColumnTwice(name) => SqlError::ColumnTwice(name.try_copy(alloc)?),
+            SqlError::SetTwice(name) => SqlError::SetTwice(name.try_copy(alloc)?),
             SqlError::Ambiguous(name) => SqlError::Ambiguous(name.try_copy(alloc)?),
             SqlError::WrongCount => SqlError::WrongCount,
             SqlError::NoOperator => SqlError::NoOperator,
@@ -63,6 +72,7 @@ impl TryCopy for SqlError {
             SqlError::IntRange => SqlError::IntRange,
             SqlError::BigRange => SqlError::BigRange,
             SqlError::ZeroDivisor => SqlError::ZeroDivisor,
+            SqlError::Deadlock(names) => SqlError::Deadlock(names.try_copy(alloc)?),
         };
         Ok(error)
     }
@@ -75,9 +85,11 @@ impl IsSame for SqlError {
             | (SqlError::SameAlias(a), SqlError::SameAlias(b))
             | (SqlError::NoColumn(a), SqlError::NoColumn(b))
             | (SqlError::ColumnTwice(a), SqlError::ColumnTwice(b))
+            | (SqlError::SetTwice(a), SqlError::SetTwice(b))
             | (SqlError::Ambiguous(a), SqlError::Ambiguous(b))
             | (SqlError::RelationExists(a), SqlError::RelationExists(b)) => a.is_same(b),
             (SqlError::TooMany(a), SqlError::TooMany(b)) => a == b,
+            (SqlError::Deadlock(a), SqlError::Deadlock(b)) => a.is_same(b),
             (SqlError::Aborted, SqlError::Aborted)
             | (SqlError::WrongCount, SqlError::WrongCount)
             | (SqlError::NoOperator, SqlError::NoOperator)

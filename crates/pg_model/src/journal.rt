@@ -1,5 +1,6 @@
 use crate::SqlError;
 use pg_lists::Items;
+use pg_multi::Strength;
 use pg_values::Values;
 
 /// Rows of values, as a reply returns them or a table holds them.
@@ -13,6 +14,10 @@ pub enum Tag {
     Rollback,
     /// `INSERT 0 n`
     Insert(u64),
+    /// `UPDATE n`
+    Update(u64),
+    /// `DELETE n`
+    Delete(u64),
     /// `SELECT n`
     Select(u64),
 }
@@ -34,10 +39,36 @@ pub enum EntryAct {
     Snapped(u32),
     /// The candidate of that number was taken up.
     Found(u64),
+    /// The row was locked at that strength, to the end of the transaction.
+    Locked {
+        table: u32,
+        row: u64,
+        strength: Strength,
+    },
     /// The proposed row drew its number.
-    Placed { table: u32, row: u64 },
+    Placed {
+        table: u32,
+        row: u64,
+    },
     /// The placed values became the first version of their row.
-    Inserted { table: u32, row: u64 },
+    Inserted {
+        table: u32,
+        row: u64,
+    },
+    /// The row got a newest version with new values.
+    Updated {
+        table: u32,
+        row: u64,
+    },
+    /// The row got a newest version that says that it is gone.
+    Deleted {
+        table: u32,
+        row: u64,
+    },
+    /// The candidate was passed over: it has no act.
+    Passed,
+    /// The session began to wait for that session's transaction to end.
+    Waits(u32),
     /// The transaction committed.
     Committed,
     /// A ROLLBACK ended the open transaction.

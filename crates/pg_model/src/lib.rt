@@ -12,10 +12,11 @@ mod target;
 mod tests;
 
 pub use catalogue::{Catalogue, Check, Checks, Column, Columns, TableShape};
-pub use error::{Counted, SqlError};
+pub use error::{Counted, SessionNames, SqlError};
 pub use journal::{Entry, EntryAct, Finished, Journal, Reply, Rows, Tables, Tag};
 pub use script::{Content, Line, Lines, Mode, Script, SetupInsert, SetupRows};
 pub use statement::{
-    ColumnNumbers, Exprs, Insert, NamedTable, ProposedRows, Select, Source, Sources, Statement,
+    Action, Assignment, Assignments, Change, ColumnNumbers, Exprs, Insert, NamedTable,
+    ProposedRows, Select, Source, Sources, Statement,
 };
 pub use target::Target;

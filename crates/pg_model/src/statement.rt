@@ -47,6 +47,38 @@ pub struct Insert {
     pub rows: ProposedRows,
 }
 
+/// A column, by its number, and the expression whose value it is set to.
+#[derive(Drop)]
+pub struct Assignment {
+    pub column: u32,
+    pub value: Expr,
+}
+
+/// A SET list, in the order written.
+pub type Assignments = Items<Assignment>;
+
+/// What an UPDATE or a DELETE makes of a row.
+#[derive(Drop)]
+pub enum Action {
+    /// The columns that the list names are set, and all others stay as they are.
+    Set(Assignments),
+    /// The row is gone.
+    Delete,
+}
+
+/// `UPDATE target SET .. [FROM sources] [WHERE condition]`, or `DELETE FROM target [USING sources]
+/// [WHERE condition]`.
+///
+/// In its expressions the target is source 0, and the sources are numbered from 1 in the order
+/// written.
+#[derive(Drop)]
+pub struct Change {
+    pub target: NamedTable,
+    pub action: Action,
+    pub sources: Sources,
+    pub condition: Option<Expr>,
+}
+
 /// A statement with its names resolved.
 #[derive(Drop)]
 pub enum Statement {
@@ -55,6 +87,7 @@ pub enum Statement {
     Rollback,
     Select(Select),
     Insert(Insert),
+    Change(Change),
 }
 
 impl TryCopy for NamedTable {
@@ -131,6 +164,65 @@ impl IsSame for Insert {
     }
 }
 
+impl TryCopy for Assignment {
+    fn try_copy(&self, alloc: Global) -> Result<Assignment, AllocError> {
+        let value = self.value.try_copy(alloc)?;
+        Ok(Assignment {
+            column: self.column,
+            value,
+        })
+    }
+}
+
+impl IsSame for Assignment {
+    fn is_same(&self, other: &Assignment) -> bool {
+        self.column == other.column && self.value.is_same(&other.value)
+    }
+}
+
+impl TryCopy for Action {
+    fn try_copy(&self, alloc: Global) -> Result<Action, AllocError> {
+        match self {
+            Action::Set(assignments) => Ok(Action::Set(assignments.try_copy(alloc)?)),
+            Action::Delete => Ok(Action::Delete),
+        }
+    }
+}
+
+impl IsSame for Action {
+    fn is_same(&self, other: &Action) -> bool {
+        match (self, other) {
+            (Action::Set(a), Action::Set(b)) => a.is_same(b),
+            (Action::Delete, Action::Delete) => true,
+            _ => false,
+        }
+    }
+}
+
+impl TryCopy for Change {
+    fn try_copy(&self, alloc: Global) -> Result<Change, AllocError> {
+        let target = self.target.try_copy(alloc)?;
+        let action = self.action.try_copy(alloc)?;
+        let sources = self.sources.try_copy(alloc)?;
+        let condition = self.condition.try_copy(alloc)?;
+        Ok(Change {
+            target,
+            action,
+            sources,
+            condition,
+        })
+    }
+}
+
+impl IsSame for Change {
+    fn is_same(&self, other: &Change) -> bool {
+        self.target.is_same(&other.target)
+            && self.action.is_same(&other.action)
+            && self.sources.is_same(&other.sources)
+            && self.condition.is_same(&other.condition)
+    }
+}
+
 impl TryCopy for Statement {
     fn try_copy(&self, alloc: Global) -> Result<Statement, AllocError> {
         match self {
@@ -139,6 +231,7 @@ impl TryCopy for Statement {
             Statement::Rollback => Ok(Statement::Rollback),
             Statement::Select(select) => Ok(Statement::Select(select.try_copy(alloc)?)),
             Statement::Insert(insert) => Ok(Statement::Insert(insert.try_copy(alloc)?)),
+            Statement::Change(change) => Ok(Statement::Change(change.try_copy(alloc)?)),
         }
     }
 }
@@ -151,6 +244,7 @@ impl IsSame for Statement {
             | (Statement::Rollback, Statement::Rollback) => true,
             (Statement::Select(a), Statement::Select(b)) => a.is_same(b),
             (Statement::Insert(a), Statement::Insert(b)) => a.is_same(b),
+            (Statement::Change(a), Statement::Change(b)) => a.is_same(b),
             _ => false,
         }
     }

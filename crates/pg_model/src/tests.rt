@@ -184,6 +184,31 @@ fn statements_are_copied(rt: HostRuntime) -> Result<(), Fail> {
 }
 
 #[test]
+fn changes_are_copied(rt: HostRuntime) -> Result<(), Fail> {
+    let alloc = rt.alloc();
+    let assignment = Assignment {
+        column: 0,
+        value: Expr::column(0, 0),
+    };
+    let update = Change {
+        target: target(alloc)?,
+        action: Action::Set(Items::from_vec(vec![in alloc; assignment]?)),
+        sources: Items::new(alloc),
+        condition: Some(Expr::literal(Value::Bool(true))),
+    };
+    let delete = Change {
+        target: target(alloc)?,
+        action: Action::Delete,
+        sources: Items::new(alloc),
+        condition: None,
+    };
+    assert!(rt; !update.action.is_same(&delete.action));
+    assert!(rt; is_copied(alloc, Statement::Change(update))?);
+    assert!(rt; is_copied(alloc, Statement::Change(delete))?);
+    Ok(())
+}
+
+#[test]
 fn targets_are_copied(rt: HostRuntime) -> Result<(), Fail> {
     let alloc = rt.alloc();
     let named = Target::Constraint(Name::from_slice(alloc, b"t_pkey")?);
@@ -223,8 +248,27 @@ fn errors_are_copied(rt: HostRuntime) -> Result<(), Fail> {
     assert!(rt; is_copied(alloc, SqlError::SameAlias(x.try_copy(alloc)?))?);
     assert!(rt; is_copied(alloc, SqlError::NoColumn(x.try_copy(alloc)?))?);
     assert!(rt; is_copied(alloc, SqlError::ColumnTwice(x.try_copy(alloc)?))?);
+    assert!(rt; is_copied(alloc, SqlError::SetTwice(x.try_copy(alloc)?))?);
     assert!(rt; is_copied(alloc, SqlError::Ambiguous(x.try_copy(alloc)?))?);
     assert!(rt; is_copied(alloc, SqlError::RelationExists(x))?);
+    Ok(())
+}
+
+/// The error of a cycle of two sessions.
+fn deadlock(alloc: Global, first: Name, second: Name) -> Result<SqlError, AllocError> {
+    Ok(SqlError::Deadlock(Items::from_vec(vec![in alloc; first, second]?)))
+}
+
+#[test]
+fn deadlocks_are_copied(rt: HostRuntime) -> Result<(), Fail> {
+    let alloc = rt.alloc();
+    let a = Name::from_slice(alloc, b"a")?;
+    let b = Name::from_slice(alloc, b"b")?;
+    let turned = deadlock(alloc, b.try_copy(alloc)?, a.try_copy(alloc)?)?;
+    let given = deadlock(alloc, a, b)?;
+    assert!(rt; !given.is_same(&turned));
+    drop(turned);
+    assert!(rt; is_copied(alloc, given)?);
     Ok(())
 }
 

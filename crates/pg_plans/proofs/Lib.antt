@@ -1,2 +1,2 @@
-mod Lending
+pub mod Lending
 mod Listing

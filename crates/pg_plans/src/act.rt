@@ -1,4 +1,5 @@
 use pg_model::{EntryAct, SqlError};
+use pg_xacts::On;
 
 /// What a step of an open statement answers.
 #[derive(Debug, Drop)]
@@ -7,6 +8,8 @@ pub enum Act {
     Entry(EntryAct),
     /// It came nearer to its end, and there is no entry.
     Quiet,
+    /// It has to wait for this.
+    Blocked(On),
     /// It fails with this error.
     Failed(SqlError),
     /// Nothing is left to be done but its reply.

@@ -5,7 +5,7 @@ ghost use Rattle.pg_returning.specs.Outcomes.{outcome};
 ghost use Rattle.pg_world.specs.Candidates.{column_values as values_of_columns, insert_candidates as candidates_of, listed_values as values_listed, proposed_row as row_proposed, value_for as value_in, value_or_default as value_given};
 ghost use Rattle.pg_world.specs.Evaluation.{all_values};
 
-use crate::evaluation::fitted_value;
+use crate::evaluation::{fitted_for, fitted_value};
 use pg_exprs::{Env, Expr};
 use pg_lists::Items;
 use pg_model::{Column, Insert};
@@ -79,11 +79,7 @@ fn value_for(
         outcome result ≡ value_in columns.now number expr.now }
 {
     let env = Env::new(NO_ROWS.as_slice(), None);
-    let value = value_of(alloc, expr, &env)?;
-    match columns.get(number as usize) {
-        Some(column) => fitted_value(value, column.kind),
-        None => Ok(value),
-    }
+    fitted_for(columns, number, value_of(alloc, expr, &env)?)
 }
 
 /// The values of all columns in their order, or the first error of a default.

@@ -7,7 +7,7 @@ ghost use Rattle.pg_model.specs.declared.statement.Statement.TheVariants as stat
 ghost use Rattle.pg_world.specs.Replies.{candidate_list as list_of, proposed_values as values_proposed, reply_of, shown_value as value_shown};
 
 use pg_lists::{Items, TryCopy};
-use pg_model::{Reply, Rows, Tag};
+use pg_model::{Action, Change, Reply, Rows, Tag};
 use pg_values::{Value, Values, copy_value};
 use pg_world::{Candidate, Running};
 use std::alloc::{AllocError, Global};
@@ -30,6 +30,18 @@ pub fn insert_reply(alloc: Global, running: &Running) -> Result<Reply, AllocErro
 {
     let rows = shown_rows(alloc, running.output.as_slice())?;
     let tag = Tag::Insert(running.acts);
+    Ok(Reply { tag, rows })
+}
+
+/// The reply of an UPDATE or DELETE that is done: the tag counts its acts.
+pub fn change_reply(alloc: Global, change: &Change, running: &Running) -> Result<Reply, AllocError>
+    ensures { IfOk result (λ reply. reply ≡ reply_of (statement.Change change.now) running.now) }
+{
+    let rows = shown_rows(alloc, running.output.as_slice())?;
+    let tag = match change.action {
+        Action::Set(_) => Tag::Update(running.acts),
+        Action::Delete => Tag::Delete(running.acts),
+    };
     Ok(Reply { tag, rows })
 }
 

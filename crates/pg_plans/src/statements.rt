@@ -1,11 +1,12 @@
-ghost use Rattle.std.specs.Prelude.{◌≡◌, ◌≢◌, Err, IfOk, map};
+ghost use Rattle.std.specs.Prelude.{◌≡◌, ◌≢◌, ◌++◌, ◌∷◌, Err, IfOk, OnOk, map};
 ghost use Rattle.pg_returning.specs.Outcomes.{outcome};
 ghost use Rattle.pg_world.specs.Candidates.{candidates_over, table_of_source as table_in, tables_read as tables_of};
 
+use crate::changes::change_candidates;
 use crate::inserts::insert_candidates;
 use crate::selects::select_candidates;
 use pg_lists::Items;
-use pg_model::{Source, Statement};
+use pg_model::{Change, Source, Statement};
 use pg_returning::PlanFault;
 use pg_world::{Candidate, SeenRow};
 use std::alloc::{AllocError, Global};
@@ -26,6 +27,7 @@ pub fn candidates(
     match statement {
         Statement::Select(select) => select_candidates(alloc, select, seen.as_slice()),
         Statement::Insert(insert) => insert_candidates(alloc, insert),
+        Statement::Change(change) => change_candidates(alloc, change, seen.as_slice()),
         Statement::Begin | Statement::Commit | Statement::Rollback => Ok(Items::new(alloc)),
     }
 }
@@ -36,10 +38,22 @@ pub fn tables_read(alloc: Global, statement: &Statement) -> Result<Items<u32>, A
 {
     match statement {
         Statement::Select(select) => tables_of_sources(alloc, select.sources.as_slice()),
+        Statement::Change(change) => tables_of_change(alloc, change),
         Statement::Insert(_) | Statement::Begin | Statement::Commit | Statement::Rollback => Ok(
             Items::new(alloc),
         ),
     }
+}
+
+/// The tables that an UPDATE or DELETE reads: its target, and its sources, in order.
+pub fn tables_of_change(alloc: Global, change: &Change) -> Result<Items<u32>, AllocError>
+    ensures { IfOk result (λ tables. tables
+        ≡ change.now.target.table ∷ map table_in change.now.sources) }
+{
+    let mut tables = Items::new(alloc);
+    tables.push(change.target.table)?;
+    push_tables(&mut tables, change.sources.as_slice())?;
+    Ok(tables)
 }
 
 /// The tables of the sources, in order.
@@ -47,10 +61,18 @@ pub fn tables_of_sources(alloc: Global, sources: &[Source]) -> Result<Items<u32>
     ensures { IfOk result (λ tables. tables ≡ map table_in sources.now) }
 {
     let mut tables = Items::new(alloc);
+    push_tables(&mut tables, sources)?;
+    Ok(tables)
+}
+
+/// Puts the tables of the sources, in order, behind those that are there.
+fn push_tables(tables: &mut Items<u32>, sources: &[Source]) -> Result<(), AllocError>
+    ensures { OnOk result (tables.new ≡ tables.old ++ map table_in sources.now) }
+{
     for source in sources {
         tables.push(table_of_source(source))?;
     }
-    Ok(tables)
+    Ok(())
 }
 
 /// The table that a source is.

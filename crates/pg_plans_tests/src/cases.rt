@@ -44,13 +44,28 @@ fn put_values(alloc: Global, text: &mut Vec<u8>, values: &Values) -> Result<(), 
     text.extend_from_slice(shown.as_bytes())
 }
 
-/// Appends what was made for each candidate.
+/// Appends the values of the rows of which a candidate was made.
+fn put_partners(alloc: Global, text: &mut Vec<u8>, partners: &[SeenRow]) -> Result<(), AllocError> {
+    for row in partners {
+        if let Some(values) = &row.version.values {
+            put_values(alloc, text, values)?;
+        }
+    }
+    Ok(())
+}
+
+/// Appends what was made for each candidate, or the rows of which it was made where nothing is made
+/// of them yet.
 fn put_made(alloc: Global, text: &mut Vec<u8>, candidates: &[Candidate]) -> Result<(), AllocError> {
     if candidates.is_empty() {
         return text.extend_from_slice(b"none");
     }
     for candidate in candidates {
-        put_values(alloc, text, &candidate.made)?;
+        if candidate.made.is_empty() {
+            put_partners(alloc, text, candidate.partners.as_slice())?;
+        } else {
+            put_values(alloc, text, &candidate.made)?;
+        }
     }
     Ok(())
 }

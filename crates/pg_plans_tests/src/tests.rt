@@ -6,7 +6,8 @@ use pg_plans::{SeenRows, candidates, tables_read};
 use std::alloc::{AllocError, Global};
 
 /// Scripts, each with the candidates of its lines. Each line sees the rows that the first line
-/// proposes. Before the candidates stand the tables that the statement reads and writes.
+/// proposes. Before the candidates stand the tables that the statement reads. The candidates of an
+/// UPDATE or DELETE are the rows of which they are made.
 const CASES: &str = "\
 rc 1 stepped
 setup: CREATE TABLE t (x integer, y bigint)
@@ -55,7 +56,23 @@ a: INSERT INTO t (x) VALUES (1), (1 / 0), (2147483648)
 22003 integer out of range
 22003 integer out of range
 22012 division by zero
-22012 division by zero";
+22012 division by zero
+
+rc 1 stepped
+setup: CREATE TABLE t (x integer, y bigint)
+a: INSERT INTO t VALUES (1, 10), (2, 20)
+a: UPDATE t SET y = y + 1 WHERE x = 2
+a: UPDATE t SET x = 1 / 0
+a: UPDATE t SET y = 3 WHERE NULL
+a: DELETE FROM t WHERE y > 5
+a: DELETE FROM t WHERE 1 / (x - 1) = 1
+=>
+[Int(1), Big(10)][Int(2), Big(20)]
+from 0 [Int(2), Big(20)]
+from 0 [Int(1), Big(10)][Int(2), Big(20)]
+from 0 none
+from 0 [Int(1), Big(10)][Int(2), Big(20)]
+from 0 22012 division by zero";
 
 /// The rows that the first line of a script proposes, as they are seen.
 fn first_rows(alloc: Global, script: &Script) -> Result<SeenRows, AllocError> {

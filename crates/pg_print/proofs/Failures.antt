@@ -1,12 +1,14 @@
 -- Errors, told apart by their states and texts.
 use Rattle.std.proofs.Common.{◌≡◌, refl, ap, ℕ, true, List, [], ◌∷◌, ◌++◌, codes}
 use Rattle.std.specs.List.{list_all}
+use Rattle.std.proofs.lemmas.List.{append_cancel_left}
 use Rattle.pg_names.specs.Names.{is_name}
 use Rattle.pg_model.specs.declared.error.Counted.TheVariants as counted
 use Rattle.pg_model.specs.declared.error.SqlError.{SqlError}
 use Rattle.pg_model.specs.declared.error.SqlError.TheVariants as error
 use Rattle.pg_model.specs.Errors.{error_state, error_text}
 use Rattle.pg_print.specs.Laws.{names_in}
+use Rattle.pg_print.proofs.Cycles.{deadlock_same}
 use Rattle.pg_print.proofs.Fronts.{apart, left_holds}
 use Rattle.pg_print.proofs.Named.{named_same}
 
@@ -28,6 +30,8 @@ error_same (error.NoColumn x) (error.NoColumn y) na nb e =
     ap error.NoColumn (named_same (codes "42703 column ") (codes " does not exist") x y (only x na) (only y nb) e)
 error_same (error.ColumnTwice x) (error.ColumnTwice y) na nb e =
     ap error.ColumnTwice (named_same (codes "42701 column ") (codes " specified more than once") x y (only x na) (only y nb) e)
+error_same (error.SetTwice x) (error.SetTwice y) na nb e =
+    ap error.SetTwice (named_same (codes "42601 column ") (codes " is set more than once") x y (only x na) (only y nb) e)
 error_same (error.Ambiguous x) (error.Ambiguous y) na nb e =
     ap error.Ambiguous (named_same (codes "42702 column reference ") (codes " is ambiguous") x y (only x na) (only y nb) e)
 error_same error.WrongCount error.WrongCount na nb e = refl
@@ -43,4 +47,6 @@ error_same error.TooLong error.TooLong na nb e = refl
 error_same error.IntRange error.IntRange na nb e = refl
 error_same error.BigRange error.BigRange na nb e = refl
 error_same error.ZeroDivisor error.ZeroDivisor na nb e = refl
+error_same (error.Deadlock xs) (error.Deadlock ys) na nb e =
+    ap error.Deadlock (deadlock_same xs ys na nb (append_cancel_left (codes "40P01 deadlock detected, cycle ") _ _ e))
 error_same a b na nb e = absurd (apart 8 (failed_words a) (failed_words b) e refl)

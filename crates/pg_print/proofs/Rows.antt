@@ -81,7 +81,7 @@ rows_same (x ∷ xs) (y ∷ ys) wx wy e =
     ap₂ (λ z zs. z ∷ zs) first.0
     (rows_same xs ys (others_of_all (All IsWidened) x xs wx) (others_of_all (All IsWidened) y ys wy) first.1)
 
-digit_is : (n : ℕ) → n < 10 → is_digit (48 + n) ≡ true
+pub digit_is : (n : ℕ) → n < 10 → is_digit (48 + n) ≡ true
 digit_is = each_digit is_digit refl refl refl refl refl refl refl refl refl refl
 
 rows_stop : (rows : List (List Value)) → Stops is_digit (rows_text rows)
@@ -105,6 +105,12 @@ tag_front tag.Rollback tag.Rollback xs ys fa fb e = (refl, append_cancel_left (c
 tag_front (tag.Insert m) (tag.Insert n) xs ys fa fb e =
     let ended = number_front m n xs ys fa fb (append_cancel_left (codes "INSERT 0 ") _ _ e) in
     (ap tag.Insert ended.0, ended.1)
+tag_front (tag.Update m) (tag.Update n) xs ys fa fb e =
+    let ended = number_front m n xs ys fa fb (append_cancel_left (codes "UPDATE ") _ _ e) in
+    (ap tag.Update ended.0, ended.1)
+tag_front (tag.Delete m) (tag.Delete n) xs ys fa fb e =
+    let ended = number_front m n xs ys fa fb (append_cancel_left (codes "DELETE ") _ _ e) in
+    (ap tag.Delete ended.0, ended.1)
 tag_front (tag.Select m) (tag.Select n) xs ys fa fb e =
     let ended = number_front m n xs ys fa fb (append_cancel_left (codes "SELECT ") _ _ e) in
     (ap tag.Select ended.0, ended.1)

@@ -35,6 +35,8 @@ AreWidened rows = All (λ row. All IsWidened row) rows
 -- a tag counts rows in 64 bits
 abbrev pub IsTag : Tag → Type 0
 IsTag (tag.Insert rows) = IsNumber rows
+IsTag (tag.Update rows) = IsNumber rows
+IsTag (tag.Delete rows) = IsNumber rows
 IsTag (tag.Select rows) = IsNumber rows
 IsTag other = Unit {0}
 
@@ -44,25 +46,31 @@ names_in (error.NoRelation name) = name ∷ []
 names_in (error.SameAlias name) = name ∷ []
 names_in (error.NoColumn name) = name ∷ []
 names_in (error.ColumnTwice name) = name ∷ []
+names_in (error.SetTwice name) = name ∷ []
 names_in (error.Ambiguous name) = name ∷ []
 names_in (error.RelationExists name) = name ∷ []
+names_in (error.Deadlock names) = names
 names_in other = []
 
--- what an act names exists: its table is one of so many, its numbers have 64 bits, its rows are as replies hold them,
--- and what its error names are names
-abbrev pub IsActOf : ℕ → EntryAct → Type 0
-IsActOf tables (act.Snapped commits) = IsNumber commits
-IsActOf tables (act.Found number) = IsNumber number
-IsActOf tables (act.Placed table row) = (table < tables) × IsNumber row
-IsActOf tables (act.Inserted table row) = (table < tables) × IsNumber row
-IsActOf tables (act.Replied reply) = IsTag reply.tag × AreWidened reply.rows
-IsActOf tables (act.Failed error) = list_all is_name (names_in error) ≡ true
-IsActOf tables other = Unit {0}
+-- what an act names exists: its session and its table are among so many, its numbers have 64 bits, its rows are as
+-- replies hold them, and what its error names are names
+abbrev pub IsActOf : ℕ → ℕ → EntryAct → Type 0
+IsActOf sessions tables (act.Snapped commits) = IsNumber commits
+IsActOf sessions tables (act.Found number) = IsNumber number
+IsActOf sessions tables (act.Locked table row strength) = (table < tables) × IsNumber row
+IsActOf sessions tables (act.Placed table row) = (table < tables) × IsNumber row
+IsActOf sessions tables (act.Inserted table row) = (table < tables) × IsNumber row
+IsActOf sessions tables (act.Updated table row) = (table < tables) × IsNumber row
+IsActOf sessions tables (act.Deleted table row) = (table < tables) × IsNumber row
+IsActOf sessions tables (act.Waits session) = session < sessions
+IsActOf sessions tables (act.Replied reply) = IsTag reply.tag × AreWidened reply.rows
+IsActOf sessions tables (act.Failed error) = list_all is_name (names_in error) ≡ true
+IsActOf sessions tables other = Unit {0}
 
 -- an entry of a session of the script
 pub record IsEntryOf (script : Script) (entry : Entry) : Type 0 where
   pub session : entry.session < length script.sessions
-  pub act : IsActOf (length script.catalogue) entry.act
+  pub act : IsActOf (length script.sessions) (length script.catalogue) entry.act
 
 -- over each script, entries with one line are one entry
 abbrev pub OneEntryForEachLine : Type 0

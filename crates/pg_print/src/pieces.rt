@@ -94,6 +94,14 @@ pub fn put_tag(out: &mut Vec<u8>, tag: Tag) -> Result<(), AllocError>
             out.extend_from_slice(b"INSERT 0 ")?;
             put_number(out, rows)
         }
+        Tag::Update(rows) => {
+            out.extend_from_slice(b"UPDATE ")?;
+            put_number(out, rows)
+        }
+        Tag::Delete(rows) => {
+            out.extend_from_slice(b"DELETE ")?;
+            put_number(out, rows)
+        }
         Tag::Select(rows) => {
             out.extend_from_slice(b"SELECT ")?;
             put_number(out, rows)

@@ -51,8 +51,13 @@ fn put_entry(out: &mut Vec<u8>, script: &Script, entry: &Entry) -> Result<(), Al
         EntryAct::Failed(error) => put_failure(out, name, error),
         EntryAct::Snapped(_)
         | EntryAct::Found(_)
+        | EntryAct::Locked { .. }
         | EntryAct::Placed { .. }
         | EntryAct::Inserted { .. }
+        | EntryAct::Updated { .. }
+        | EntryAct::Deleted { .. }
+        | EntryAct::Passed
+        | EntryAct::Waits(_)
         | EntryAct::Committed
         | EntryAct::RolledBack
         | EntryAct::Closed => Ok(()),

@@ -5,9 +5,10 @@ ghost use Rattle.pg_model.specs.Statements.{is_catalogue};
 
 use pg_lists::Items;
 use pg_model::{
-    Catalogue, Column, Columns, Counted, Entry, EntryAct, Finished, Reply, Rows, Script, SqlError,
-    TableShape, Tag,
+    Catalogue, Column, Columns, Counted, Entry, EntryAct, Finished, Reply, Rows, Script,
+    SessionNames, SqlError, TableShape, Tag,
 };
+use pg_multi::Strength;
 use pg_names::{Name, NamedItems, Names};
 use pg_print::*;
 use pg_shared::Shared;
@@ -122,8 +123,8 @@ fn fail(journal: &mut Vec<Entry>, error: SqlError) -> Result<(), AllocError> {
     put(journal, 1, EntryAct::Failed(error))
 }
 
-/// Each act but a reply and a failure, the last one of a session and of a table that the script has
-/// not.
+/// Acts other than replies and failures, the last one of a session and of a table that the script
+/// has not.
 fn acts(alloc: Global) -> Result<Vec<Entry>, AllocError> {
     let mut journal = Vec::new(alloc);
     put(&mut journal, 0, EntryAct::Snapped(12))?;
@@ -137,12 +138,39 @@ fn acts(alloc: Global) -> Result<Vec<Entry>, AllocError> {
     Ok(journal)
 }
 
+fn lock(journal: &mut Vec<Entry>, strength: Strength) -> Result<(), AllocError> {
+    let act = EntryAct::Locked {
+        table: 0,
+        row: 1,
+        strength,
+    };
+    put(journal, 0, act)
+}
+
+/// A lock of each strength, acts that change rows, and waits, the last one for a session that the
+/// script has not.
+fn changes(alloc: Global) -> Result<Vec<Entry>, AllocError> {
+    let mut journal = Vec::new(alloc);
+    lock(&mut journal, Strength::KeyShare)?;
+    lock(&mut journal, Strength::Share)?;
+    lock(&mut journal, Strength::NoKeyUpdate)?;
+    lock(&mut journal, Strength::Update)?;
+    put(&mut journal, 0, EntryAct::Updated { table: 0, row: 1 })?;
+    put(&mut journal, 1, EntryAct::Deleted { table: 1, row: 2 })?;
+    put(&mut journal, 0, EntryAct::Passed)?;
+    put(&mut journal, 0, EntryAct::Waits(1))?;
+    put(&mut journal, 1, EntryAct::Waits(2))?;
+    Ok(journal)
+}
+
 fn replies(alloc: Global) -> Result<Vec<Entry>, AllocError> {
     let mut journal = Vec::new(alloc);
     reply(&mut journal, Tag::Begin, Items::new(alloc))?;
     reply(&mut journal, Tag::Commit, Items::new(alloc))?;
     reply(&mut journal, Tag::Rollback, Items::new(alloc))?;
     reply(&mut journal, Tag::Insert(0), Items::new(alloc))?;
+    reply(&mut journal, Tag::Update(3), Items::new(alloc))?;
+    reply(&mut journal, Tag::Delete(1), Items::new(alloc))?;
     reply(&mut journal, Tag::Select(2), two_rows(alloc)?)?;
     Ok(journal)
 }
@@ -186,6 +214,28 @@ fn failures(alloc: Global) -> Result<Vec<Entry>, AllocError> {
     Ok(journal)
 }
 
+/// The names of the sessions `a`, `b` and `c`.
+fn three_names(alloc: Global) -> Result<SessionNames, AllocError> {
+    let mut names = Items::new(alloc);
+    names.push(Name::from_slice(alloc, b"a")?)?;
+    names.push(Name::from_slice(alloc, b"b")?)?;
+    names.push(Name::from_slice(alloc, b"c")?)?;
+    Ok(names)
+}
+
+/// A column that is set twice, and cycles of three sessions, of one and of none.
+fn change_failures(alloc: Global) -> Result<Vec<Entry>, AllocError> {
+    let mut journal = Vec::new(alloc);
+    let mut one = Items::new(alloc);
+    one.push(Name::from_slice(alloc, b"b")?)?;
+    let x = Name::from_slice(alloc, b"x")?;
+    fail(&mut journal, SqlError::SetTwice(x))?;
+    fail(&mut journal, SqlError::Deadlock(three_names(alloc)?))?;
+    fail(&mut journal, SqlError::Deadlock(one))?;
+    fail(&mut journal, SqlError::Deadlock(Items::new(alloc)))?;
+    Ok(journal)
+}
+
 #[test]
 fn acts_have_their_lines(rt: HostRuntime) -> Result<(), Fail> {
     let alloc = rt.alloc();
@@ -198,9 +248,33 @@ fn acts_have_their_lines(rt: HostRuntime) -> Result<(), Fail> {
 }
 
 #[test]
+fn changes_have_their_lines(rt: HostRuntime) -> Result<(), Fail> {
+    let alloc = rt.alloc();
+    let want =
+        "a locked t 1 key share\na locked t 1 share\na locked t 1 no key update\na locked t 1 update\n\
+        a updated t 1\nb deleted empty 2\na passed\na waits b\nb waits \n";
+    let text = journal_text(alloc, &script(alloc)?, changes(alloc)?.as_slice())?;
+    assert_eq!(rt; text.as_slice(), want.as_bytes());
+    Ok(())
+}
+
+#[test]
+fn failures_of_changes_have_their_lines(rt: HostRuntime) -> Result<(), Fail> {
+    let alloc = rt.alloc();
+    let want = "b failed 42601 column \"x\" is set more than once\n\
+        b failed 40P01 deadlock detected, cycle a waits for b, b waits for c, c waits for a\n\
+        b failed 40P01 deadlock detected, cycle b waits for b\n\
+        b failed 40P01 deadlock detected, cycle \n";
+    let text = journal_text(alloc, &script(alloc)?, change_failures(alloc)?.as_slice())?;
+    assert_eq!(rt; text.as_slice(), want.as_bytes());
+    Ok(())
+}
+
+#[test]
 fn replies_have_their_lines(rt: HostRuntime) -> Result<(), Fail> {
     let alloc = rt.alloc();
     let want = "a replied BEGIN\na replied COMMIT\na replied ROLLBACK\na replied INSERT 0 0\n\
+        a replied UPDATE 3\na replied DELETE 1\n\
         a replied SELECT 2 (null|t|f|-7|-9223372036854775808|'it''s ''|') ('')\n";
     let text = journal_text(alloc, &script(alloc)?, replies(alloc)?.as_slice())?;
     assert_eq!(rt; text.as_slice(), want.as_bytes());
@@ -253,7 +327,7 @@ fn a_run_prints_replies_failures_and_tables(rt: HostRuntime) -> Result<(), Fail>
         journal: Items::from_vec(journal),
         tables: Items::from_vec(vec![in alloc; two_rows(alloc)?, Items::new(alloc)]?),
     };
-    let want = "a: BEGIN\na: COMMIT\na: ROLLBACK\na: INSERT 0 0\n\
+    let want = "a: BEGIN\na: COMMIT\na: ROLLBACK\na: INSERT 0 0\na: UPDATE 3\na: DELETE 1\n\
         a> null|t|f|-7|-9223372036854775808|'it''s ''|'\na> ''\na: SELECT 2\n\
         b: ERROR 42703: column \"x\" does not exist\ntable t\n\
         null|t|f|-7|-9223372036854775808|'it''s ''|'\n''\ntable empty\n";

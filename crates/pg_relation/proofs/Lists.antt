@@ -1,5 +1,5 @@
 -- Lists that are read and written at a place.
-use Rattle.std.proofs.Common.{◌≡◌, ◌<◌, ◌≤◌, ◌+◌, ℕ, zero, suc, List, [], ◌∷◌, length, get_or, map, drop, Contains, All, Some, None, slice_get, slice_set, refl, ap, subst, arith}
+use Rattle.std.proofs.Common.{◌≡◌, ◌<◌, ◌≤◌, ◌+◌, ℕ, zero, suc, List, [], ◌∷◌, length, get_or, map, drop, Contains, All, Some, None, slice_get, slice_set, refl, sym, ap, subst, arith}
 use Rattle.std.specs.Prelude.{sum_by}
 use Rattle.std.proofs.lemmas.Option.{slice_get_within, slice_get-get_or, get_or_from_slice_get}
 use Rattle.std.proofs.lemmas.List.Sums.{sum_by-set, sum_by-cons}
@@ -31,6 +31,12 @@ get_set_other (z ∷ zs) zero zero y other = absurd (other refl)
 get_set_other (z ∷ zs) zero (suc j) y other = refl
 get_set_other (z ∷ zs) (suc i) zero y other = refl
 get_set_other (z ∷ zs) (suc i) (suc j) y other = get_set_other zs i j y (λ e. other (ap suc e))
+
+-- an item that is written over itself leaves the list
+pub set_same : {X : Type 0} (xs : List X) (i : ℕ) (x : X) → slice_get xs i ≡ Some x → slice_set xs i x ≡ xs
+set_same [] i x is = absurd (cc is)
+set_same (z ∷ zs) zero x is = let e : z ≡ x = cc is in ap (λ y. y ∷ zs) (sym e)
+set_same (z ∷ zs) (suc i) x is = ap (λ ys. z ∷ ys) (set_same zs i x is)
 
 -- what holds of each item and of the one that is written holds of each behind it
 pub each_set : {X : Type 0} (P : ℕ → X → Type 0) (xs : List X) (i : ℕ) (y : X) →

@@ -10,15 +10,18 @@ use Rattle.pg_xacts.specs.declared.transaction.XStatus.{XStatus}
 use Rattle.pg_xacts.specs.declared.transaction.XStatus.TheVariants.{Running as IsRunning}
 use Rattle.pg_xacts.specs.Transactions.{Transactions, beginner_of, next_number, status_of, transaction_begun, with_status}
 use Rattle.pg_model.specs.declared.error.SqlError.{SqlError}
+use Rattle.pg_model.specs.declared.statement.Change.{Change}
 use Rattle.pg_model.specs.declared.statement.Statement.{Statement}
 use Rattle.pg_model.specs.declared.statement.Statement.TheVariants as statement
 use Rattle.pg_world.specs.declared.candidate.Candidate.{Candidate}
 use Rattle.pg_world.specs.Candidates.{candidates_of, candidates_over, seen_of_table, tables_read}
+use Rattle.pg_world.specs.Changes.{change_choices_at, partners_in, row_at, table_at, target_row}
 use Rattle.pg_world.specs.Choices.{choices, choices_by, choices_with, insert_choices, placing_choices}
 use Rattle.pg_world.specs.declared.session.Running.{Running}
 use Rattle.pg_world.specs.declared.session.Stage.{Stage}
-use Rattle.pg_world.specs.declared.session.Stage.TheVariants.{Between as between, Found as found, Placed as placed}
+use Rattle.pg_world.specs.declared.session.Stage.TheVariants.{Between as between, Found as found, Locked as locked, Placed as placed}
 use Rattle.pg_world.specs.declared.table.TableView.{TableView}
+use Rattle.pg_relation.proofs.Deciding.{found_some, locked_some}
 use Rattle.pg_relation.proofs.Lists.{get_set_other, slice_get_none}
 
 -- who has begun a transaction, and whether it runs, where another is begun
@@ -123,11 +126,23 @@ choices_stay own tables after transactions behind running same done = by running
         insert_choices number after running count stage ≡ []
     insert number count between none = none
     insert number count found none = placing number (item_at tables number) refl none
+    insert number count (locked name) none = refl
     insert number count (placed row) none = absurd (cc none)
+
+    change : (target : Change) (count : ℕ) (stage : Stage) → change_choices_at target tables transactions running count stage ≡ [] →
+        change_choices_at target after behind running count stage ≡ []
+    change target count between none = none
+    change target count found none =
+        absurd (found_some target tables transactions running.me (partners_in running) none)
+    change target count (locked name) none =
+        absurd (locked_some target (row_at (table_at tables target.target.table) (target_row (partners_in running))) name
+        (partners_in running) none)
+    change target count (placed row) none = refl
 
     of_kind : (kind : Statement) (candidates : List Candidate) → choices_with kind tables transactions running candidates ≡ [] →
         choices_with kind after behind running candidates ≡ []
     of_kind (statement.Insert i) candidates none = insert i.target.table (length candidates) running.stage none
+    of_kind (statement.Change target) candidates none = change target (length candidates) running.stage none
     of_kind (statement.Select s) candidates none = refl
     of_kind statement.Begin candidates none = refl
     of_kind statement.Commit candidates none = refl

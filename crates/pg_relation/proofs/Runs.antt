@@ -64,7 +64,7 @@ entries_left script world schedule =
 pub entries_fall : (script : Script) (old new : World) (before behind : Schedule) (number : ℕ) (act : EntryAct) →
     next_session script old before ≡ Some number → chosen script old (settled_schedule script old before) number ≡ Some act →
     new ≡ effect script old (record { session = number; act = act }) →
-    behind ≡ schedule_after script old (settled_schedule script old before) (record { session = number; act = act }) →
+    behind ≡ schedule_after (settled_schedule script old before) (record { session = number; act = act }) →
     entries_left script new behind < entries_left script old before
 unfolding entries_left
 entries_fall script old new before behind number act next first new_is behind_is =
@@ -84,7 +84,7 @@ pub steps_to_more : (script : Script) (journal : List Entry) (old new : World) (
     (number : ℕ) (act : EntryAct) →
     next_session script old before ≡ Some number → chosen script old (settled_schedule script old before) number ≡ Some act →
     new ≡ effect script old (record { session = number; act = act }) →
-    behind ≡ schedule_after script old (settled_schedule script old before) (record { session = number; act = act }) →
+    behind ≡ schedule_after (settled_schedule script old before) (record { session = number; act = act }) →
     StepsTo script journal old before → StepsTo script (journal ++ record { session = number; act = act } ∷ []) new behind
 unfolding StepsTo
 steps_to_more script journal old new before behind number act next first new_is behind_is steps =
@@ -124,7 +124,7 @@ unfolding IsSteppedFrom IsLegalFrom
 legal_stepped_from script world schedule [] stepped = tt
 legal_stepped_from script world schedule (entry ∷ entries) stepped = (
   first_contained (moves_of script world entry.session) entry.act stepped.1,
-  legal_stepped_from script (effect script world entry) (schedule_after script world (settled_schedule script world schedule) entry) entries stepped.2,
+  legal_stepped_from script (effect script world entry) (schedule_after (settled_schedule script world schedule) entry) entries stepped.2,
 )
 
 pub legal_stepped : (script : Script) (journal : List Entry) → IsStepped script journal → IsLegal script journal

@@ -1,94 +1,23 @@
 -- The session that moves next: it stands where it can move, and there is one until all have ended.
-use Rattle.std.proofs.Common.{◌≡◌, ◌<◌, ◌≤◌, ◌+◌, ◌⊎◌, ◌&&◌, ℕ, zero, suc, Bool, true, false, cond, List, [], ◌∷◌, length, drop, Option, Some, None, slice_get, refl, sym, ap, ◌∙◌, subst, inl, inr, arith, length-drop, add-one}
-use Rattle.std.specs.Prelude.{Result, Ok, Err, is_some}
+use Rattle.std.proofs.Common.{◌≡◌, ◌<◌, ◌≤◌, ◌+◌, ◌⊎◌, ◌&&◌, ℕ, zero, suc, Bool, true, false, cond, not, List, [], ◌∷◌, length, drop, Option, Some, None, slice_get, refl, sym, ap, ◌∙◌, subst, inl, inr, arith, length-drop, add-one}
+use Rattle.std.specs.Prelude.{is_some}
 use Rattle.std.specs.Option.{option_map_or}
 use Rattle.std.proofs.lemmas.Bool.{and_parts}
-use Rattle.std.proofs.lemmas.Option.{slice_get_within}
-use Rattle.pg_model.specs.declared.error.SqlError.{SqlError}
-use Rattle.pg_model.specs.declared.journal.EntryAct.{EntryAct}
-use Rattle.pg_model.specs.declared.journal.Reply.{Reply}
+use Rattle.std.proofs.lemmas.Option.{cond_some, slice_get_within}
+use Rattle.pg_xacts.specs.declared.on.On.{On}
+use Rattle.pg_waits.specs.Slots.{wait_of}
 use Rattle.pg_model.specs.declared.script.Line.{Line}
 use Rattle.pg_model.specs.declared.script.Script.{Script}
-use Rattle.pg_model.specs.declared.statement.Statement.{Statement}
-use Rattle.pg_model.specs.declared.statement.Statement.TheVariants as statement
-use Rattle.pg_world.specs.Choices.{Choice, choices}
-use Rattle.pg_world.specs.Replies.{reply_of}
-use Rattle.pg_world.specs.declared.session.Block.{Block}
 use Rattle.pg_world.specs.declared.session.Progress.{Progress}
 use Rattle.pg_world.specs.declared.session.SessionView.{SessionView}
-use Rattle.pg_world.specs.declared.session.Block.TheVariants.{NoBlock as no_block, OpenBlock as open_block, FailedBlock as failed_block}
 use Rattle.pg_world.specs.declared.session.Progress.TheVariants.{Idle as idle, Inside as inside, Ending as ending, Closed as closed}
 use Rattle.pg_world.specs.Worlds.{World}
-use Rattle.pg_relation.specs.Lines.{statements_of, statement_at}
-use Rattle.pg_relation.specs.Moves.{ends_block, commit_moves, rollback_moves, beginning_moves, block_moves, done_moves, chosen_or_done, session_moves, moves_of}
-use Rattle.pg_relation.specs.Schedules.{Schedule, is_inside, is_idle, is_queued, lowest, or_else, continuing, beginning, ready, line_taken, schedule_behind, settled_schedule, remaining, next_session}
-use Rattle.pg_relation.specs.Stepped.{first_of_list}
-use Rattle.pg_relation.specs.Sound.{CanStand, IsSound}
-use Rattle.pg_relation.proofs.Lists.{slice_get_some, drop_behind}
-
--- a list of moves that is not empty
-pub record HasFirst (moves : List EntryAct) : Type 0 where
-  pub act : EntryAct
-  pub first : first_of_list moves ≡ Some act
-
-one_first : (act : EntryAct) → HasFirst (act ∷ [])
-one_first act = record { act = act; first = refl }
-
-commit_first : (block : Block) (transaction : Option ℕ) → HasFirst (commit_moves block transaction)
-commit_first block (Some xact) = one_first _
-commit_first block None = one_first _
-
-rollback_first : (transaction : Option ℕ) → HasFirst (rollback_moves transaction)
-rollback_first (Some xact) = one_first _
-rollback_first None = one_first _
-
-beginning_first : (world : World) (session : SessionView) (given : Result Statement SqlError) →
-    HasFirst (beginning_moves world session given)
-beginning_first world session (Ok statement.Begin) = one_first _
-beginning_first world session (Ok statement.Commit) = commit_first session.block session.transaction
-beginning_first world session (Ok statement.Rollback) = rollback_first session.transaction
-beginning_first world session (Ok (statement.Select select)) = one_first _
-beginning_first world session (Ok (statement.Insert insert)) = one_first _
-beginning_first world session (Err error) = one_first _
-
-block_first : (world : World) (session : SessionView) (given : Result Statement SqlError) (block : Block) (ends : Bool) →
-    HasFirst (block_moves world session given block ends)
-block_first world session given failed_block false = one_first _
-block_first world session given failed_block true = beginning_first world session given
-block_first world session given no_block ends = beginning_first world session given
-block_first world session given open_block ends = beginning_first world session given
-
-done_first : (block : Block) (transaction : Option ℕ) (reply : Reply) → HasFirst (done_moves block transaction reply)
-done_first no_block (Some xact) reply = one_first _
-done_first no_block None reply = one_first _
-done_first open_block transaction reply = one_first _
-done_first failed_block transaction reply = one_first _
-
-chosen_first : (given : List Choice) (done : List EntryAct) → HasFirst done → HasFirst (chosen_or_done given done)
-chosen_first [] done first = first
-chosen_first (choice ∷ others) done first = record { act = _; first = refl }
-
--- a session that has not ended has a move
-pub first_move : (script : Script) (world : World) (number : ℕ) (session : SessionView) → IsSound script world →
-    slice_get world.sessions number ≡ Some session → (session.progress ≡ closed → ⊥) → HasFirst (moves_of script world number)
-first_move script world number session sound is unended =
-    rw is (at (statement_at script number session) refl session.progress refl (sound.standing number session is))
-  where
-    at : (given : Option (Result Statement SqlError)) → statement_at script number session ≡ given →
-        (progress : Progress) → session.progress ≡ progress →
-        CanStand (statements_of script number) session.answered progress →
-        HasFirst (session_moves world session given progress)
-    at (Some given) given_is idle p stands = block_first world session given session.block (ends_block given)
-    at None given_is idle p stands = one_first _
-    at given given_is (inside running) p stands =
-        rw (sym given_is ∙ stands.1)
-        (chosen_first (choices stands.0 world.tables world.transactions running) _
-        (done_first session.block session.transaction (reply_of stands.0 running)))
-    at (Some given) given_is (ending tag) p stands = one_first _
-    at None given_is (ending tag) p stands =
-        let l = slice_get_some (statements_of script number) session.answered stands in
-        absurd (let e : None ≡ Some l.0 = sym given_is ∙ l.1 in cc)
-    at given given_is closed p stands = absurd (unended p)
+use Rattle.pg_relation.specs.Moves.{moves_of}
+use Rattle.pg_relation.specs.Schedules.{Schedule, is_inside, is_idle, is_queued, is_waiting, is_going_on, lowest, or_else, continuing, waking, beginning, ready, line_taken, schedule_behind, settled_schedule, remaining, next_session}
+use Rattle.pg_relation.specs.Sound.{HasSoundWaits, IsSound}
+use Rattle.pg_relation.proofs.Lists.{drop_behind}
+use Rattle.pg_relation.proofs.First.{HasFirst, first_move}
+use Rattle.pg_relation.proofs.Walks.{Ends, free_of, last_open, walk_ends}
 
 -- the first answer, or else the second
 or_else_some : {X : Type 0} (a b : Option X) (x : X) → or_else a b ≡ Some x →
@@ -155,45 +84,86 @@ lowest_standing world test number is =
     let s : r.place ≡ number = omega (arith, r.counted) in
     record { session = r.session; is = subst (λ k. slice_get world.sessions k ≡ Some r.session) s r.is; passes = r.passes }
 
-continuing_some : (world : World) (last : Option ℕ) (number : ℕ) → continuing world last ≡ Some number →
-    IsStanding world (λ session. is_inside session.progress) number
-continuing_some world None number e = absurd (cc e)
-continuing_some world (Some other) number e = at (slice_get world.sessions other) refl e
+-- a session that is inside a statement, and does not wait
+pub record GoesOn (world : World) (number : ℕ) : Type 0 where
+  pub session : SessionView
+  pub is : slice_get world.sessions number ≡ Some session
+  pub inside_is : is_inside session.progress ≡ true
+  pub free : wait_of world.waits number ≡ None
+
+no_wait : (wait : Option On) → not (is_some wait) ≡ true → wait ≡ None
+no_wait None is = refl
+no_wait (Some on) is = absurd (cc is)
+
+pub goes_on : (world : World) (number : ℕ) → is_going_on world number ≡ true → GoesOn world number
+goes_on world number is =
+    at (slice_get world.sessions number) refl
+    (and_parts (option_map_or (λ session. is_inside session.progress) (slice_get world.sessions number) false)
+    (not (is_waiting world number)) is)
   where
-    by_test : (session : SessionView) → slice_get world.sessions other ≡ Some session → (b : Bool) → is_inside session.progress ≡ b →
-        cond b (Some other) None ≡ Some number → IsStanding world (λ y. is_inside y.progress) number
-    by_test session is true passes e =
-        let k : other ≡ number = cc e in
-        record { session = session; is = subst (λ n. slice_get world.sessions n ≡ Some session) k is; passes = passes }
-    by_test session is false passes e = absurd (cc e)
+    at : (o : Option SessionView) → slice_get world.sessions number ≡ o →
+        (option_map_or (λ session. is_inside session.progress) (slice_get world.sessions number) false ≡ true)
+        × (not (is_waiting world number) ≡ true) → GoesOn world number
+    at None here both = absurd (let e = rw here at both.0 in let f : false ≡ true = e in cc f)
+    at (Some session) here both = record {
+      session = session;
+      is = here;
+      inside_is = rw here at both.0;
+      free = no_wait (wait_of world.waits number) both.1;
+    }
 
-    at : (o : Option SessionView) → slice_get world.sessions other ≡ o →
-        cond (option_map_or (λ session. is_inside session.progress) o false) (Some other) None ≡ Some number →
-        IsStanding world (λ session. is_inside session.progress) number
-    at None is e = absurd (cc e)
-    at (Some session) is e = by_test session is (is_inside session.progress) refl e
+-- who is inside a statement and does not wait goes on
+pub going : (world : World) (number : ℕ) (session : SessionView) → slice_get world.sessions number ≡ Some session →
+    is_inside session.progress ≡ true → wait_of world.waits number ≡ None → is_going_on world number ≡ true
+going world number session is inside_is free = rw (is, free, inside_is) refl
 
--- a session that is ready stands inside a statement, or has a queued line
+continuing_some : (world : World) (last : Option ℕ) (number : ℕ) → continuing world last ≡ Some number →
+    is_going_on world number ≡ true
+continuing_some world None number e = absurd (cc e)
+continuing_some world (Some other) number e =
+    let both = cond_some (is_going_on world other) other number e in
+    subst (λ n. is_going_on world n ≡ true) both.1 both.0
+
+waking_some : (world : World) (waited : List ℕ) (number : ℕ) → waking world waited ≡ Some number →
+    is_going_on world number ≡ true
+waking_some world [] number e = absurd (cc e)
+waking_some world (first ∷ waited) number e =
+    at (is_going_on world first) refl e (waking_some world waited number)
+  where
+    at : (b : Bool) → is_going_on world first ≡ b → cond b (Some first) (waking world waited) ≡ Some number →
+        (waking world waited ≡ Some number → is_going_on world number ≡ true) → is_going_on world number ≡ true
+    at true on e behind = let k : first ≡ number = cc e in subst (λ n. is_going_on world n ≡ true) k on
+    at false on e behind = behind e
+
+-- a session that is ready goes on, or is between statements and has a queued line
 record IsReady (script : Script) (world : World) (schedule : Schedule) (number : ℕ) : Type 0 where
   session : SessionView
   is : slice_get world.sessions number ≡ Some session
-  ready_to : (is_inside session.progress ≡ true)
+  ready_to : GoesOn world number
       ⊎ ((is_idle session.progress ≡ true) × (is_queued script schedule number session ≡ true))
 
 ready_some : (script : Script) (world : World) (schedule : Schedule) (number : ℕ) →
     ready script world schedule ≡ Some number → IsReady script world schedule number
 ready_some script world schedule number e = at (or_else_some (continuing world schedule.last) _ number e)
   where
-    at : ((continuing world schedule.last ≡ Some number)
-        ⊎ ((continuing world schedule.last ≡ None) × (beginning script world schedule ≡ Some number))) →
+    on : GoesOn world number → IsReady script world schedule number
+    on r = record { session = r.session; is = r.is; ready_to = inl r }
+
+    behind : ((waking world schedule.waited ≡ Some number)
+        ⊎ ((waking world schedule.waited ≡ None) × (beginning script world schedule ≡ Some number))) →
         IsReady script world schedule number
-    at (inl h) =
-        let r = continuing_some world schedule.last number h in
-        record { session = r.session; is = r.is; ready_to = inl r.passes }
-    at (inr h) =
+    behind (inl h) = on (goes_on world number (waking_some world schedule.waited number h))
+    behind (inr h) =
         let r = lowest_standing world (λ n s. is_idle s.progress && is_queued script schedule n s) number h.1 in
         let both = and_parts (is_idle r.session.progress) (is_queued script schedule number r.session) r.passes in
         record { session = r.session; is = r.is; ready_to = inr both }
+
+    at : ((continuing world schedule.last ≡ Some number)
+        ⊎ ((continuing world schedule.last ≡ None)
+        × (or_else (waking world schedule.waited) (beginning script world schedule) ≡ Some number))) →
+        IsReady script world schedule number
+    at (inl h) = on (goes_on world number (continuing_some world schedule.last number h))
+    at (inr h) = behind (or_else_some (waking world schedule.waited) (beginning script world schedule) number h.1)
 
 -- a settled schedule has somebody ready, or no line left
 pub settled_ready : (script : Script) (world : World) (schedule : Schedule) (lines : List Line) →
@@ -252,10 +222,10 @@ settled_all script world schedule none = at (settled_ready script world schedule
 
 -- the session that moves next
 pub record CanMove (script : Script) (world : World) (schedule : Schedule) (number : ℕ) : Type 0 where
-  -- it is one of the script's, and has not ended
+  -- it is one of the script's, and goes on or is between statements
   pub session : SessionView
   pub is : slice_get world.sessions number ≡ Some session
-  pub unended : session.progress ≡ closed → ⊥
+  pub stands : GoesOn world number ⊎ (is_idle session.progress ≡ true)
   -- while lines remain untaken, it is inside a statement or has a queued line
   pub has_line : (settled_schedule script world schedule).taken < length script.lines → is_idle session.progress ≡ true →
       is_queued script (settled_schedule script world schedule) number session ≡ true
@@ -272,39 +242,44 @@ not_both (inside running) inside_is idle_is = cc idle_is
 not_both (ending tag) inside_is idle_is = cc idle_is
 not_both closed inside_is idle_is = cc inside_is
 
+-- who goes on is not between statements
+goes_not_idle : (world : World) (number : ℕ) (session : SessionView) → slice_get world.sessions number ≡ Some session →
+    GoesOn world number → is_idle session.progress ≡ true → ⊥
+goes_not_idle world number session is on idle_is =
+    let both : Some on.session ≡ Some session = sym on.is ∙ is in
+    let same : on.session ≡ session = cc in
+    not_both session.progress (subst (λ s. is_inside s.progress ≡ true) same on.inside_is) idle_is
+
 pub next_can_move : (script : Script) (world : World) (schedule : Schedule) (number : ℕ) →
     next_session script world schedule ≡ Some number → CanMove script world schedule number
 next_can_move script world schedule number e =
     at (or_else_some (ready script world (settled_schedule script world schedule)) (remaining world) number e)
   where
+    by_going : GoesOn world number → CanMove script world schedule number
+    by_going on = record {
+      session = on.session;
+      is = on.is;
+      stands = inl on;
+      has_line = λ more idle_is. absurd (goes_not_idle world number on.session on.is on idle_is);
+    }
+
     by_ready : (r : IsReady script world (settled_schedule script world schedule) number) →
-        ((is_inside r.session.progress ≡ true) ⊎ ((is_idle r.session.progress ≡ true)
+        (GoesOn world number ⊎ ((is_idle r.session.progress ≡ true)
         × (is_queued script (settled_schedule script world schedule) number r.session ≡ true))) →
         CanMove script world schedule number
-    by_ready r (inl h) = record {
-      session = r.session;
-      is = r.is;
-      unended = inside_unended r.session.progress h;
-      has_line = λ more idle_is. absurd (not_both r.session.progress h idle_is);
-    }
-    by_ready r (inr h) = record {
-      session = r.session;
-      is = r.is;
-      unended = idle_unended r.session.progress h.0;
-      has_line = λ more idle_is. h.1;
-    }
+    by_ready r (inl on) = by_going on
+    by_ready r (inr h) = record { session = r.session; is = r.is; stands = inr h.0; has_line = λ more idle_is. h.1 }
 
     left : ready script world (settled_schedule script world schedule) ≡ None →
         ((lowest (λ n s. is_idle s.progress) 0 world.sessions ≡ Some number)
-        ⊎ ((lowest (λ n s. is_idle s.progress) 0 world.sessions ≡ None) × (lowest (λ n s. is_inside s.progress) 0 world.sessions ≡ Some number))) →
+        ⊎ ((lowest (λ n s. is_idle s.progress) 0 world.sessions ≡ None) × (lowest (λ n s. is_going_on world n) 0 world.sessions ≡ Some number))) →
         CanMove script world schedule number
     left none (inl h) =
         let r = lowest_standing world (λ n s. is_idle s.progress) number h in
         let all = settled_all script world schedule none in
-        record { session = r.session; is = r.is; unended = idle_unended r.session.progress r.passes; has_line = λ more idle_is. absurd (omega (arith, more, all)) }
+        record { session = r.session; is = r.is; stands = inr r.passes; has_line = λ more idle_is. absurd (omega (arith, more, all)) }
     left none (inr h) =
-        let r = lowest_standing world (λ n s. is_inside s.progress) number h.1 in
-        record { session = r.session; is = r.is; unended = inside_unended r.session.progress r.passes; has_line = λ more idle_is. absurd (not_both r.session.progress r.passes idle_is) }
+        let r = lowest_standing world (λ n s. is_going_on world n) number h.1 in by_going (goes_on world number r.passes)
 
     at : ((ready script world (settled_schedule script world schedule) ≡ Some number)
         ⊎ ((ready script world (settled_schedule script world schedule) ≡ None) × (remaining world ≡ Some number))) →
@@ -312,12 +287,42 @@ next_can_move script world schedule number e =
     at (inl h) = let r = ready_some script world (settled_schedule script world schedule) number h in by_ready r r.ready_to
     at (inr h) = left h.0 (or_else_some (lowest (λ n s. is_idle s.progress) 0 world.sessions) _ number h.1)
 
--- in a sound world it has a first move
-pub next_moves : (script : Script) (world : World) (schedule : Schedule) (number : ℕ) → IsSound script world →
+-- it has not ended
+pub next_unended : (script : Script) (world : World) (schedule : Schedule) (number : ℕ) (r : CanMove script world schedule number) →
+    r.session.progress ≡ closed → ⊥
+next_unended script world schedule number r ended = at r.stands
+  where
+    at : (GoesOn world number ⊎ (is_idle r.session.progress ≡ true)) → ⊥
+    at (inl on) =
+        let both : Some on.session ≡ Some r.session = sym on.is ∙ r.is in
+        let same : on.session ≡ r.session = cc in
+        inside_unended r.session.progress (subst (λ s. is_inside s.progress ≡ true) same on.inside_is) ended
+    at (inr idle_is) = idle_unended r.session.progress idle_is ended
+
+-- and does not wait, where no session between statements does
+pub next_free : (script : Script) (world : World) (schedule : Schedule) (number : ℕ) → CanMove script world schedule number →
+    HasSoundWaits world → wait_of world.waits number ≡ None
+next_free script world schedule number r waits = at r.stands
+  where
+    by : (wait : Option On) → wait_of world.waits number ≡ wait → is_idle r.session.progress ≡ true → wait_of world.waits number ≡ None
+    by None is idle_is = is
+    by (Some on) is idle_is =
+        let w = waits.standing number on is in
+        let both : Some r.session ≡ Some w.session = sym r.is ∙ w.is in
+        let same : r.session ≡ w.session = cc in
+        absurd (let e = rw (same, w.inside_is) at idle_is in let f : false ≡ true = e in cc f)
+
+    at : (GoesOn world number ⊎ (is_idle r.session.progress ≡ true)) → wait_of world.waits number ≡ None
+    at (inl on) = on.free
+    at (inr idle_is) = by (wait_of world.waits number) refl idle_is
+
+-- it has a first move
+pub next_moves : (script : Script) (world : World) (schedule : Schedule) (number : ℕ) → IsSound script world → HasSoundWaits world →
     next_session script world schedule ≡ Some number → HasFirst (moves_of script world number)
-next_moves script world schedule number sound e =
+next_moves script world schedule number sound waits e =
     let r = next_can_move script world schedule number e in
-    first_move script world number r.session sound r.is r.unended
+    first_move script world number r.session sound r.is (next_unended script world schedule number r)
+    (next_free script world schedule number r waits)
 
 -- and it is one of the script's
 pub next_within : (script : Script) (world : World) (schedule : Schedule) (number : ℕ) →
@@ -326,23 +331,37 @@ next_within script world schedule number e =
     let r = next_can_move script world schedule number e in
     slice_get_within world.sessions number r.session r.is
 
--- no session moves next only where all have ended
-pub none_closed : (script : Script) (world : World) (schedule : Schedule) (number : ℕ) (session : SessionView) →
-    next_session script world schedule ≡ None → slice_get world.sessions number ≡ Some session → session.progress ≡ closed
-none_closed script world schedule number session e is =
+-- where no session moves next, each has ended or waits
+none_stands : (script : Script) (world : World) (schedule : Schedule) (number : ℕ) (session : SessionView) →
+    next_session script world schedule ≡ None → slice_get world.sessions number ≡ Some session → wait_of world.waits number ≡ None →
+    session.progress ≡ closed
+none_stands script world schedule number session e is free =
     let last = or_else_none (ready script world (settled_schedule script world schedule)) (remaining world) e in
     let both = or_else_none (lowest (λ n s. is_idle s.progress) 0 world.sessions) _ last.1 in
-    at session.progress
+    at session.progress refl
     (lowest_none (λ n s. is_idle s.progress) 0 world.sessions number number session both.0 (omega arith) is)
-    (lowest_none (λ n s. is_inside s.progress) 0 world.sessions number number session both.1 (omega arith) is)
+    (lowest_none (λ n s. is_going_on world n) 0 world.sessions number number session both.1 (omega arith) is)
   where
-    at : (p : Progress) → is_idle p ≡ false → is_inside p ≡ false → p ≡ closed
-    at idle idle_is inside_is = absurd (cc idle_is)
-    at (inside running) idle_is inside_is = absurd (cc inside_is)
-    at (ending tag) idle_is inside_is = absurd (cc inside_is)
-    at closed idle_is inside_is = refl
+    at : (p : Progress) → session.progress ≡ p → is_idle p ≡ false → is_going_on world number ≡ false → p ≡ closed
+    at idle p idle_is stays = absurd (cc idle_is)
+    at (inside running) p idle_is stays =
+        absurd (let e : true ≡ false = sym (going world number session is (ap is_inside p) free) ∙ stays in cc e)
+    at (ending tag) p idle_is stays =
+        absurd (let e : true ≡ false = sym (going world number session is (ap is_inside p) free) ∙ stays in cc e)
+    at closed p idle_is stays = refl
 
--- and there, none does
+-- and none waits: the waits of who waits lead to a session that does not wait, and has not ended
+pub none_closed : (script : Script) (world : World) (schedule : Schedule) (number : ℕ) (session : SessionView) → HasSoundWaits world →
+    next_session script world schedule ≡ None → slice_get world.sessions number ≡ Some session → session.progress ≡ closed
+none_closed script world schedule number session waits e is = at (walk_ends world.waits waits.acyclic number)
+  where
+    at : Ends world.waits number → session.progress ≡ closed
+    at (inl free) = none_stands script world schedule number session e is (free_of world.waits number free)
+    at (inr walk) =
+        let held = last_open world waits number walk.0 walk.1 in
+        absurd (held.unended (none_stands script world schedule walk.0 held.session e held.is (free_of world.waits walk.0 walk.2)))
+
+-- where all have ended, none does
 pub closed_none : (script : Script) (world : World) (schedule : Schedule) →
     ((number : ℕ) (session : SessionView) → slice_get world.sessions number ≡ Some session → session.progress ≡ closed) →
     next_session script world schedule ≡ None
@@ -352,4 +371,16 @@ closed_none script world schedule all = at (next_session script world schedule) 
     at None e = e
     at (Some number) e =
         let r = next_can_move script world schedule number e in
-        absurd (r.unended (all number r.session r.is))
+        absurd (next_unended script world schedule number r (all number r.session r.is))
+
+-- while a session has not ended, some session has a move
+pub some_moves : (script : Script) (world : World) (number : ℕ) (session : SessionView) → IsSound script world → HasSoundWaits world →
+    slice_get world.sessions number ≡ Some session → (session.progress ≡ closed → ⊥) →
+    (other : ℕ) × HasFirst (moves_of script world other)
+some_moves script world number session sound waits is unended = at (walk_ends world.waits waits.acyclic number)
+  where
+    at : Ends world.waits number → (other : ℕ) × HasFirst (moves_of script world other)
+    at (inl free) = (number, first_move script world number session sound is unended (free_of world.waits number free))
+    at (inr walk) =
+        let held = last_open world waits number walk.0 walk.1 in
+        (walk.0, first_move script world walk.0 held.session sound held.is held.unended (free_of world.waits walk.0 walk.2))

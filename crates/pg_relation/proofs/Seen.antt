@@ -17,7 +17,7 @@ use Rattle.pg_heap.specs.Seen.{is_own_earlier, is_seen}
 use Rattle.pg_world.specs.Candidates.{seen_row, seen_rows}
 use Rattle.pg_world.specs.declared.placed.PlacedRow.{PlacedRow}
 use Rattle.pg_world.specs.declared.table.TableView.{TableView}
-use Rattle.pg_world.specs.Tables.{placed_at, placed_stored, row_inserted, row_placed, version_by}
+use Rattle.pg_world.specs.Tables.{placed_at, placed_stored, row_changed, row_inserted, row_placed, version_by}
 
 -- filters that pass the same
 module _ {X : Type 0} where
@@ -194,6 +194,12 @@ module _ (commits : ℕ) (me : Me) where
           seen_rows transactions commits me (placed_stored table by row placed) ≡ seen_rows transactions commits me table
       at None = refl
       at (Some placed) = rows_stored transactions table.rows row (version_by by placed.values) (unseen placed.values)
+
+  pub table_changed : (transactions : Transactions) (table : TableView) (by : Me) (row : ℕ) (values : Option (List Value)) →
+      is_seen transactions commits me (record { values = values; writer = by.xact; command = by.command }) ≡ false →
+      seen_rows transactions commits me (row_changed table by row values) ≡ seen_rows transactions commits me table
+  table_changed transactions table by row values unseen =
+      rows_stored transactions table.rows row (record { values = values; writer = by.xact; command = by.command }) unseen
 
 -- tables by number
 module _ {Y : Type 0} where

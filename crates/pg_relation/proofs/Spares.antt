@@ -4,6 +4,7 @@ use Rattle.std.specs.Prelude.{Ok}
 use Rattle.std.proofs.Math.Nat.{suc_inj}
 use Rattle.std.proofs.lemmas.List.{length-map}
 use Rattle.pg_xacts.specs.declared.me.Me.{Me}
+use Rattle.pg_xacts.specs.declared.on.On.{On}
 use Rattle.pg_xacts.specs.declared.transaction.XStatus.TheVariants.{Running as IsRunning, Committed, RolledBack}
 use Rattle.pg_xacts.specs.Transactions.{beginner_of, is_among_commits, is_status_among, status_of, transaction_begun}
 use Rattle.pg_model.specs.declared.script.Script.{Script}
@@ -119,9 +120,9 @@ not_owner world xact other owner number mine theirs apart same =
     apart (cc both)
 
 -- an entry that leaves tables and transactions
-pub spares_same : (world : World) (number : ℕ) (sessions : List SessionView) →
-    Spares world (record world { sessions = sessions }) number
-spares_same world number sessions = record {
+pub spares_same : (world : World) (number : ℕ) (sessions : List SessionView) (waits : List (Option On)) →
+    Spares world (record world { sessions = sessions; waits = waits }) number
+spares_same world number sessions waits = record {
   tables = refl;
   commits = omega arith;
   begun = λ xact owner is. is;
@@ -185,15 +186,15 @@ module _ (world : World) (number xact : ℕ) (runs : status_of world.transaction
 
   -- a commit is seen by no snapshot that was taken before
   pub seen_committed : (commits : ℕ) (me : Me) → commits ≤ world.transactions.commits → (table : ℕ) →
-      seen_of_table (with_end world xact commit).tables (with_end world xact commit).transactions commits me table
+      seen_of_table (with_end world number xact commit).tables (with_end world number xact commit).transactions commits me table
       ≡ seen_of_table world.tables world.transactions commits me table
   seen_committed commits me few table =
-      numbered_mapped (seen_rows (with_end world xact commit).transactions commits me) (seen_rows world.transactions commits me)
+      numbered_mapped (seen_rows (with_end world number xact commit).transactions commits me) (seen_rows world.transactions commits me)
       (table_after_end xact commit)
-      (λ view. rows_same commits me world.transactions (with_end world xact commit).transactions
+      (λ view. rows_same commits me world.transactions (with_end world number xact commit).transactions
       (λ other. among_committed commits other few) view.rows) world.tables table
 
-  pub spares_commit : (sessions : List SessionView) → Spares world (record (with_end world xact commit) { sessions = sessions }) number
+  pub spares_commit : (sessions : List SessionView) → Spares world (record (with_end world number xact commit) { sessions = sessions }) number
   spares_commit sessions = record {
     tables = length-map world.tables (table_after_end xact commit);
     commits = omega arith;
@@ -205,7 +206,7 @@ module _ (world : World) (number xact : ℕ) (runs : status_of world.transaction
     seen = λ commits me owner few is apart table. seen_committed commits me few table;
   }
 
-  pub spares_rollback : (sessions : List SessionView) → Spares world (record (with_end world xact rollback) { sessions = sessions }) number
+  pub spares_rollback : (sessions : List SessionView) → Spares world (record (with_end world number xact rollback) { sessions = sessions }) number
   spares_rollback sessions = record {
     tables = length-map world.tables (table_after_end xact rollback);
     commits = omega arith;
@@ -215,9 +216,9 @@ module _ (world : World) (number xact : ℕ) (runs : status_of world.transaction
         (λ e. not_owner world xact other owner number mine is apart (sym e)) ∙ so;
     among = λ commits other few. among_rolled_back commits other;
     seen = λ commits me owner few is apart table.
-        numbered_mapped (seen_rows (with_end world xact rollback).transactions commits me) (seen_rows world.transactions commits me)
+        numbered_mapped (seen_rows (with_end world number xact rollback).transactions commits me) (seen_rows world.transactions commits me)
         (table_after_end xact rollback)
-        (λ view. rows_left commits me world.transactions (with_end world xact rollback).transactions xact
+        (λ view. rows_left commits me world.transactions (with_end world number xact rollback).transactions xact
         (λ other. among_rolled_back commits other) (among_running commits world.transactions xact runs)
         (λ e. not_owner world xact me.xact owner number mine is apart e) view.rows) world.tables table;
   }
@@ -226,7 +227,7 @@ module _ (world : World) (number xact : ℕ) (runs : status_of world.transaction
 pub spares_rollback_of : (world : World) (number : ℕ) (transaction : Option ℕ) (sessions : List SessionView) →
     ((xact : ℕ) → transaction ≡ Some xact →
     (status_of world.transactions xact ≡ Some IsRunning) × (beginner_of world.transactions xact ≡ Some number)) →
-    Spares world (record (with_end_of world transaction rollback) { sessions = sessions }) number
-spares_rollback_of world number None sessions owner = spares_same world number sessions
+    Spares world (record (with_end_of world number transaction rollback) { sessions = sessions }) number
+spares_rollback_of world number None sessions owner = spares_same world number sessions world.waits
 spares_rollback_of world number (Some xact) sessions owner =
     let own = owner xact refl in spares_rollback world number xact own.0 own.1 sessions

@@ -6,6 +6,7 @@ use Rattle.std.proofs.lemmas.List.{length-map}
 use Rattle.std.proofs.lemmas.Option.{slice_get-map}
 use Rattle.pg_lists.specs.Numbered.{with_changed_item}
 use Rattle.pg_values.specs.declared.value.Value.{Value}
+use Rattle.pg_multi.specs.declared.strength.Strength.{Strength}
 use Rattle.pg_xacts.specs.declared.me.Me.{Me}
 use Rattle.pg_xacts.specs.declared.transaction.XStatus.TheVariants.{Running as IsRunning, Committed}
 use Rattle.pg_xacts.specs.Transactions.{Transactions, beginner_of, is_among_commits, status_of}
@@ -18,32 +19,35 @@ use Rattle.pg_model.specs.declared.journal.Tag.TheVariants as tag
 use Rattle.pg_model.specs.declared.script.Script.{Script}
 use Rattle.pg_model.specs.declared.statement.Statement.{Statement}
 use Rattle.pg_world.specs.Candidates.{seen_of_table, seen_rows}
-use Rattle.pg_world.specs.Choices.{does, choices}
+use Rattle.pg_world.specs.Choices.{choices}
+use Rattle.pg_world.specs.Choosing.{does}
 use Rattle.pg_world.specs.declared.session.Running.{Running}
 use Rattle.pg_world.specs.declared.session.SessionView.{SessionView}
 use Rattle.pg_world.specs.declared.session.Stage.{Stage}
 use Rattle.pg_world.specs.declared.session.Progress.TheVariants.{Inside as inside, Ending as ending, Closed as closed}
-use Rattle.pg_world.specs.declared.session.Stage.TheVariants.{Between as between, Found as found, Placed as placed}
+use Rattle.pg_world.specs.declared.session.Stage.TheVariants.{Between as between, Found as found, Locked as locked, Placed as placed}
 use Rattle.pg_world.specs.Sessions.{first_running, fresh_session}
 use Rattle.pg_world.specs.declared.table.TableView.{TableView}
-use Rattle.pg_world.specs.Tables.{commit, rollback, row_inserted, row_placed, table_after_end, version_by}
-use Rattle.pg_world.specs.Worlds.{World, with_end, with_end_of, with_session}
-use Rattle.pg_relation.specs.Effect.{me_in, transaction_for, transactions_opened, me_for, candidates_at, session_snapped, with_open, with_snapshot, with_candidate, with_placed_row, with_inserted_row, with_commit, with_rollback, with_reply, with_failure, with_closure, without_transaction, progress_ended, proposed_in, session_replied, session_failed, act_effect, effect}
+use Rattle.pg_world.specs.Tables.{commit, rollback, row_changed, row_inserted, row_locked, row_placed, table_after_end, version_by}
+use Rattle.pg_world.specs.Worlds.{World, until_end, with_end, with_end_of, with_session, with_wait}
+use Rattle.pg_relation.specs.Effect.{with_changed_row, with_locked_row, with_passed, transaction_for, transactions_opened, me_for, candidates_at, session_snapped, with_open, with_snapshot, with_candidate, with_placed_row, with_inserted_row, with_commit, with_rollback, with_reply, with_failure, with_closure, without_transaction, progress_ended, proposed_in, session_replied, session_failed, act_effect, effect}
+use Rattle.pg_relation.specs.Running.{current_in}
+use Rattle.pg_relation.proofs.Running.{running_changed}
 use Rattle.pg_relation.specs.Journals.{IsLegal, world_after}
 use Rattle.pg_relation.specs.Lines.{statement_at}
 use Rattle.pg_relation.specs.Moves.{IsPermitted}
-use Rattle.pg_relation.specs.Needs.{IsBefore, IsAtStage, IsDone, IsOpen, Needs}
+use Rattle.pg_relation.specs.Needs.{IsBefore, IsAtStage, IsDone, IsLockedFor, IsOpen, Needs}
 use Rattle.pg_relation.specs.Setup.{first_world}
 use Rattle.pg_relation.proofs.Journals.{holds_from}
 use Rattle.pg_relation.proofs.Lists.{contains_none}
 use Rattle.pg_relation.proofs.Needs.{move_of}
-use Rattle.pg_relation.proofs.Seen.{among_running, numbered_changed, table_inserted, table_placed, unseen_by_other}
+use Rattle.pg_relation.proofs.Seen.{among_running, numbered_changed, table_changed, table_inserted, table_placed, unseen_by_other}
 use Rattle.pg_relation.proofs.Sound.{length_changed, sessions_left}
 use Rattle.pg_relation.proofs.Owners.{beginner_ended, candidates_same, choices_stay, own_begun}
 use Rattle.pg_relation.proofs.Spares.{Holds, IsReading, IsStable, Spares, among_committed, not_owner, seen_committed, spares_begun, spares_commit, spares_rollback_of, spares_same, spares_tables, stable_step}
 
 -- where a reading is of the statement that goes on, that is not past
-going_open : (script : Script) (world : World) (number : ℕ) (session : SessionView) (running : Running) (own : Statement) →
+pub going_open : (script : Script) (world : World) (number : ℕ) (session : SessionView) (running : Running) (own : Statement) →
     IsReading script world number session running → statement_at script number session ≡ Some (Ok own) →
     (choices own world.tables world.transactions running ≡ [] → ⊥) → session.transaction ≡ Some running.me.xact
 going_open script world number session running own reading own_is going = at reading.opened
@@ -63,8 +67,9 @@ not_earlier n true = at (nat_lt n n) refl
     at true is = absurd (omega (arith, ltb-true n n is))
     at false is = refl
 
-own_unseen : (transactions : Transactions) (commits : ℕ) (me : Me) (values : List Value) →
-    is_among_commits transactions commits me.xact ≡ false → is_seen transactions commits me (version_by me values) ≡ false
+own_unseen : (transactions : Transactions) (commits : ℕ) (me : Me) (values : Option (List Value)) →
+    is_among_commits transactions commits me.xact ≡ false →
+    is_seen transactions commits me (record { values = values; writer = me.xact; command = me.command }) ≡ false
 own_unseen transactions commits me values none = rw (none, not_earlier me.command (nat_eq me.xact me.xact)) refl
 
 module _ (script : Script) (world : World) (number : ℕ) (session : SessionView) (is : slice_get world.sessions number ≡ Some session) (stable : IsStable script world) where
@@ -106,7 +111,7 @@ module _ (script : Script) (world : World) (number : ℕ) (session : SessionView
             });
       })
 
-  open_at : (stage : Stage) (act : EntryAct) (s : IsAtStage world (statement_at script number session) session stage act) →
+  pub open_at : (stage : Stage) (act : EntryAct) (s : IsAtStage world (statement_at script number session) session stage act) →
       session.transaction ≡ Some s.opened.running.me.xact
   open_at stage act s =
       going_open script world number session s.opened.running s.opened.statement
@@ -147,7 +152,7 @@ module _ (script : Script) (world : World) (number : ℕ) (session : SessionView
       (λ e. not_owner world s.opened.running.me.xact me.xact owner number runs.1 by apart e)
       (version_by s.opened.running.me values) refl) t)
       (λ t. unseen s.opened.running.snapshot s.opened.running.me
-      (λ values. own_unseen world.transactions s.opened.running.snapshot s.opened.running.me values
+      (λ values. own_unseen world.transactions s.opened.running.snapshot s.opened.running.me (Some values)
       (among_running s.opened.running.snapshot world.transactions s.opened.running.me.xact runs.0)) t))
     where
       unseen : (commits : ℕ) (me : Me) →
@@ -157,6 +162,68 @@ module _ (script : Script) (world : World) (number : ℕ) (session : SessionView
       unseen commits me none t =
           numbered_changed (seen_rows world.transactions commits me) _
           (λ view. table_inserted commits me world.transactions view s.opened.running.me row none) world.tables table t
+
+  stable_passed : (stage : Stage) → IsAtStage world (statement_at script number session) session stage entry.Passed →
+      IsStable script (with_passed world number session)
+  stable_passed stage s =
+      let o = open_at stage entry.Passed s in
+      rw s.opened.inside_is (stable_going world.tables s.opened.running _ _ between _ refl s.opened.inside_is o
+      (λ commits me owner few by apart table. refl) (λ table. refl))
+
+  stable_locked : (table row : ℕ) (strength : Strength) → IsAtStage world (statement_at script number session) session found (entry.Locked table row strength) →
+      IsStable script (with_locked_row world number session table row strength)
+  stable_locked table row strength s =
+      let o = open_at found (entry.Locked table row strength) s in
+      rw s.opened.inside_is (stable_going _ s.opened.running _ _ (locked (current_in world.tables world.transactions table row s.opened.running.me.xact)) _
+      (length_changed _ world.tables table) s.opened.inside_is o
+      (λ commits me owner few by apart t. unseen commits me t) (λ t. unseen s.opened.running.snapshot s.opened.running.me t))
+    where
+      unseen : (commits : ℕ) (me : Me) (t : ℕ) →
+          seen_of_table (with_changed_item (λ view. row_locked view s.opened.running.me.xact row strength) world.tables table) world.transactions commits me t
+          ≡ seen_of_table world.tables world.transactions commits me t
+      unseen commits me t =
+          numbered_changed (seen_rows world.transactions commits me) (λ view. row_locked view s.opened.running.me.xact row strength)
+          (λ view. refl) world.tables table t
+
+  stable_changed : (act : EntryAct) (table row : ℕ) (values : Option (List Value)) →
+      IsLockedFor world (statement_at script number session) session act →
+      IsStable script (with_changed_row world number session table row values)
+  stable_changed act table row values s =
+      let o = open_at (locked s.0) act s.1 in
+      let runs = holds.owner s.1.opened.running.me.xact o in
+      rw (s.1.opened.inside_is, running_changed world.tables world.transactions table row values s.1.opened.running)
+      (stable_going _ s.1.opened.running _ _ between _ (length_changed _ world.tables table) s.1.opened.inside_is o
+      (λ commits me owner few by apart t.
+      unseen commits me (unseen_by_other commits me world.transactions s.1.opened.running.me.xact
+      (among_running commits world.transactions s.1.opened.running.me.xact runs.0)
+      (λ e. not_owner world s.1.opened.running.me.xact me.xact owner number runs.1 by apart e)
+      (record { values = values; writer = s.1.opened.running.me.xact; command = s.1.opened.running.me.command }) refl) t)
+      (λ t. unseen s.1.opened.running.snapshot s.1.opened.running.me
+      (own_unseen world.transactions s.1.opened.running.snapshot s.1.opened.running.me values
+      (among_running s.1.opened.running.snapshot world.transactions s.1.opened.running.me.xact runs.0)) t))
+    where
+      unseen : (commits : ℕ) (me : Me) →
+          is_seen world.transactions commits me (record { values = values; writer = s.1.opened.running.me.xact; command = s.1.opened.running.me.command }) ≡ false →
+          (t : ℕ) → seen_of_table (with_changed_item (λ view. row_changed view s.1.opened.running.me row values) world.tables table) world.transactions commits me t
+          ≡ seen_of_table world.tables world.transactions commits me t
+      unseen commits me none t =
+          numbered_changed (seen_rows world.transactions commits me) (λ view. row_changed view s.1.opened.running.me row values)
+          (λ view. table_changed commits me world.transactions view s.1.opened.running.me row values none) world.tables table t
+
+  -- who begins to wait stands where it stood
+  stable_waiting : (other : ℕ) → IsStable script (with_wait world number (until_end other))
+  stable_waiting other = record {
+    each = λ j z j_is. let held = stable.each j z j_is in record {
+      owner = held.owner;
+      reading = λ running e. let reading = held.reading running e in record {
+        owned = reading.owned;
+        unseen = reading.unseen;
+        snapshot = reading.snapshot;
+        opened = reading.opened;
+        kept = reading.kept;
+      };
+    };
+  }
 
   -- the session behind has no transaction, and is in no statement
   holds_nothing : (new : World) (behind : SessionView) → behind.transaction ≡ None →
@@ -169,10 +236,10 @@ module _ (script : Script) (world : World) (number : ℕ) (session : SessionView
   -- a rollback
   stable_ended : (behind : SessionView) → behind.transaction ≡ None →
       ((running : Running) → behind.progress ≡ inside running → ⊥) →
-      IsStable script (with_session (with_end_of world session.transaction rollback) number behind)
+      IsStable script (with_session (with_end_of world number session.transaction rollback) number behind)
   stable_ended behind none nowhere =
-      stable_step script world (with_session (with_end_of world session.transaction rollback) number behind) number behind stable
-      (ap (λ s. slice_set s number behind) (sessions_left world session.transaction rollback))
+      stable_step script world (with_session (with_end_of world number session.transaction rollback) number behind) number behind stable
+      (ap (λ s. slice_set s number behind) (sessions_left world number session.transaction rollback))
       (spares_rollback_of world number session.transaction _ holds.owner) (holds_nothing _ behind none nowhere)
 
   stable_rollback : IsBefore (statement_at script number session) session → IsStable script (with_rollback world number session)
@@ -188,7 +255,7 @@ module _ (script : Script) (world : World) (number : ℕ) (session : SessionView
 
   stable_reply : (given : Tag) → IsStable script (with_reply world number session given)
   stable_reply given =
-      stable_step script world _ number (session_replied session given) stable refl (spares_same world number _)
+      stable_step script world _ number (session_replied session given) stable refl (spares_same world number _ _)
       (record { owner = λ xact e. holds.owner xact e; reading = λ running e. absurd (cc e) })
 
   -- a commit
@@ -203,19 +270,19 @@ module _ (script : Script) (world : World) (number : ℕ) (session : SessionView
       behind : status_of world.transactions opened.0 ≡ Some IsRunning → beginner_of world.transactions opened.0 ≡ Some number →
           (IsBefore (statement_at script number session) session ⊎ IsDone world (statement_at script number session) session) →
           (running : Running) → progress_ended tag.Commit session.progress ≡ inside running →
-          IsReading script (with_session (with_end world opened.0 commit) number (without_transaction session (progress_ended tag.Commit session.progress)))
+          IsReading script (with_session (with_end world number opened.0 commit) number (without_transaction session (progress_ended tag.Commit session.progress)))
           number (without_transaction session (progress_ended tag.Commit session.progress)) running
       behind runs mine (inl s) running e =
           absurd (let f : ending tag.Commit ≡ inside running = ap (λ p. progress_ended tag.Commit p) (sym s.idle_is) ∙ e in cc f)
       behind runs mine (inr s) running e =
           let f : inside s.opened.running ≡ inside running = ap (λ p. progress_ended tag.Commit p) (sym s.opened.inside_is) ∙ e in
           let g : s.opened.running ≡ running = cc f in
-          subst (λ r. IsReading script (with_session (with_end world opened.0 commit) number (without_transaction session (progress_ended tag.Commit session.progress)))
+          subst (λ r. IsReading script (with_session (with_end world number opened.0 commit) number (without_transaction session (progress_ended tag.Commit session.progress)))
           number (without_transaction session (progress_ended tag.Commit session.progress)) r) g (committed runs mine s)
         where
           committed : status_of world.transactions opened.0 ≡ Some IsRunning → beginner_of world.transactions opened.0 ≡ Some number →
               (s : IsDone world (statement_at script number session) session) →
-              IsReading script (with_session (with_end world opened.0 commit) number (without_transaction session (progress_ended tag.Commit session.progress)))
+              IsReading script (with_session (with_end world number opened.0 commit) number (without_transaction session (progress_ended tag.Commit session.progress)))
               number (without_transaction session (progress_ended tag.Commit session.progress)) s.opened.running
           committed runs mine s =
               let reading = holds.reading s.opened.running s.opened.inside_is in
@@ -226,10 +293,12 @@ module _ (script : Script) (world : World) (number : ℕ) (session : SessionView
                 opened = inr (λ statement is_it.
                     let e : Some (Ok s.opened.statement) ≡ Some (Ok statement) = sym s.opened.statement_is ∙ is_it in
                     let same : s.opened.statement ≡ statement = cc e in
-                    choices_stay statement world.tables (with_end world opened.0 commit).tables world.transactions (with_end world opened.0 commit).transactions s.opened.running (length-map world.tables (table_after_end opened.0 commit))
+                    choices_stay statement world.tables (with_end world number opened.0 commit).tables world.transactions
+                    (with_end world number opened.0 commit).transactions s.opened.running (length-map world.tables (table_after_end opened.0 commit))
                     (subst (λ st. choices st world.tables world.transactions s.opened.running ≡ []) same s.done));
                 kept = λ statement is_it.
-                    candidates_same statement world.tables (with_end world opened.0 commit).tables world.transactions (with_end world opened.0 commit).transactions s.opened.running.snapshot s.opened.running.me
+                    candidates_same statement world.tables (with_end world number opened.0 commit).tables world.transactions
+                    (with_end world number opened.0 commit).transactions s.opened.running.snapshot s.opened.running.me
                     (seen_committed world number opened.0 runs mine s.opened.running.snapshot s.opened.running.me reading.snapshot)
                     ∙ reading.kept statement is_it;
               }
@@ -241,10 +310,10 @@ module _ (script : Script) (world : World) (number : ℕ) (session : SessionView
   opens None is = own_begun world.transactions number
   opens (Some xact) is = holds.owner xact is
 
-  spares_opened : (t : Option ℕ) (sessions : List SessionView) →
+  pub spares_opened : (t : Option ℕ) (sessions : List SessionView) →
       Spares world (record world { transactions = transactions_opened world.transactions number t; sessions = sessions }) number
   spares_opened None sessions = spares_begun world number sessions
-  spares_opened (Some xact) sessions = spares_same world number sessions
+  spares_opened (Some xact) sessions = spares_same world number sessions world.waits
 
   commits_opened : (t : Option ℕ) → (transactions_opened world.transactions number t).commits ≡ world.transactions.commits
   commits_opened None = refl
@@ -260,7 +329,8 @@ module _ (script : Script) (world : World) (number : ℕ) (session : SessionView
             subst (λ x. (status_of (transactions_opened world.transactions number session.transaction) x ≡ Some IsRunning)
             × (beginner_of (transactions_opened world.transactions number session.transaction) x ≡ Some number)) f own;
         reading = λ running e.
-            let f : first_running (me_for world.transactions number session) commits (candidates_at (statement_at script number session) (with_open world number session) commits (me_for world.transactions number session)) ≡ running = cc e in
+            let f : first_running (me_for world.transactions number session) commits
+            (candidates_at (statement_at script number session) (with_open world number session) commits (me_for world.transactions number session)) ≡ running = cc e in
             subst (λ r. IsReading script (with_snapshot world number (statement_at script number session) session commits) number (behind commits) r) f
             (record {
               owned = own.1;
@@ -280,48 +350,18 @@ module _ (script : Script) (world : World) (number : ℕ) (session : SessionView
           × (beginner_of (transactions_opened world.transactions number session.transaction) (transaction_for world.transactions session.transaction) ≡ Some number)
       own = opens session.transaction refl
 
-  -- what each kind of entry leaves to the others
-  spares_placed : (table row : ℕ) → Spares world (with_placed_row world number session table row) number
-  spares_placed table row =
-      spares_tables world number _ _ (length_changed _ world.tables table)
-      (λ commits me owner few by apart t.
-      numbered_changed (seen_rows world.transactions commits me) (λ view. row_placed view (me_in session.progress) (proposed_in session.progress))
-      (λ view. table_placed commits me world.transactions view (me_in session.progress) (proposed_in session.progress)) world.tables table t)
-
-  spares_inserted : (table row : ℕ) → IsAtStage world (statement_at script number session) session (placed row) (entry.Inserted table row) →
-      Spares world (with_inserted_row world number session table row) number
-  spares_inserted table row s =
-      let runs = holds.owner s.opened.running.me.xact (open_at (placed row) (entry.Inserted table row) s) in
-      let mine = ap me_in s.opened.inside_is in
-      spares_tables world number _ _ (length_changed _ world.tables table)
-      (λ commits me owner few by apart t.
-      numbered_changed (seen_rows world.transactions commits me) (λ view. row_inserted view (me_in session.progress) row)
-      (λ view. table_inserted commits me world.transactions view (me_in session.progress) row
-      (λ values. rw mine (unseen_by_other commits me world.transactions s.opened.running.me.xact
-      (among_running commits world.transactions s.opened.running.me.xact runs.0)
-      (λ e. not_owner world s.opened.running.me.xact me.xact owner number runs.1 by apart e)
-      (version_by s.opened.running.me values) refl))) world.tables table t)
-
-  spares_act : (act : EntryAct) → Needs world (statement_at script number session) session act →
-      Spares world (act_effect world number (statement_at script number session) session act) number
-  spares_act (entry.Snapped commits) needs = spares_opened session.transaction _
-  spares_act (entry.Found candidate) needs = spares_same world number _
-  spares_act (entry.Placed table row) needs = spares_placed table row
-  spares_act (entry.Inserted table row) needs = spares_inserted table row needs
-  spares_act entry.Committed needs =
-      let own = holds.owner needs.0.0 needs.0.1 in
-      rw needs.0.1 (spares_commit world number needs.0.0 own.0 own.1 _)
-  spares_act entry.RolledBack needs = spares_rollback_of world number session.transaction _ holds.owner
-  spares_act (entry.Replied reply) needs = spares_same world number _
-  spares_act (entry.Failed error) needs = spares_rollback_of world number session.transaction _ holds.owner
-  spares_act entry.Closed needs = spares_rollback_of world number session.transaction _ holds.owner
-
-  stable_act : (act : EntryAct) → Needs world (statement_at script number session) session act →
+  stable_act : (act : EntryAct) → Needs script world number (statement_at script number session) session act →
       IsStable script (act_effect world number (statement_at script number session) session act)
   stable_act (entry.Snapped commits) needs = stable_snapshot commits needs.2
   stable_act (entry.Found candidate) needs = stable_candidate candidate needs.0
   stable_act (entry.Placed table row) needs = stable_placed table row needs.0
   stable_act (entry.Inserted table row) needs = stable_inserted table row needs
+  stable_act (entry.Locked table row strength) needs = stable_locked table row strength needs.0
+  stable_act (entry.Updated table row) needs = stable_changed (entry.Updated table row) table row _ needs
+  stable_act (entry.Deleted table row) needs = stable_changed (entry.Deleted table row) table row _ needs
+  stable_act entry.Passed (inl s) = stable_passed found s
+  stable_act entry.Passed (inr s) = stable_passed (locked s.0) s.1
+  stable_act (entry.Waits other) needs = stable_waiting other
   stable_act entry.Committed needs = stable_commit needs.0 needs.1
   stable_act entry.RolledBack needs = stable_rollback needs.1
   stable_act (entry.Replied reply) needs = stable_reply reply.tag
@@ -352,10 +392,3 @@ pub stable_after : (script : Script) (journal : List Entry) → IsLegal script j
 stable_after script journal legal =
     holds_from script (λ world. IsStable script world) (λ world entry stable move. stable_kept script world entry stable move)
     (first_world script) journal (stable_first script) legal
-
--- what an entry leaves to the others, in a world that a legal journal leaves
-pub spares_entry : (script : Script) (world : World) (entry : Entry) → IsStable script world →
-    IsPermitted script world entry → Spares world (effect script world entry) entry.session
-spares_entry script world entry stable move =
-    let m = move_of script world entry move in
-    rw m.is (spares_act script world entry.session m.session m.is stable entry.act m.needs)

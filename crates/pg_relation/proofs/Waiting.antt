@@ -1,5 +1,5 @@
 -- A proposed row waits in its table: what is placed there, and what changes of tables leave of it.
-use Rattle.std.proofs.Common.{eq-eqb, inl, inr, ◌⊎◌, ◌≡◌, ◌<◌, ◌≤◌, ◌+◌, ◌==◌, ℕ, zero, suc, Bool, true, false, cond, not, List, [], ◌∷◌, ◌++◌, length, map, filter, Option, Some, None, slice_get, slice_set, refl, sym, ap, ◌∙◌, subst, arith, length-append}
+use Rattle.std.proofs.Common.{eq-eqb, inl, inr, ◌⊎◌, ◌≡◌, ◌<◌, ◌≤◌, ◌+◌, ◌==◌, ℕ, zero, suc, Bool, true, false, cond, not, List, [], ◌∷◌, ◌++◌, length, filter, Option, Some, None, slice_get, slice_set, refl, sym, ap, ◌∙◌, arith, length-append}
 use Rattle.std.specs.Option.{option_map_or}
 use Rattle.std.specs.Prelude.{option_map}
 use Rattle.std.proofs.lemmas.Bool.{ne_eqb}
@@ -7,17 +7,19 @@ use Rattle.std.proofs.lemmas.List.{length-map}
 use Rattle.std.proofs.lemmas.Option.{slice_get-map}
 use Rattle.pg_lists.specs.Numbered.{with_changed_item}
 use Rattle.pg_values.specs.declared.value.Value.{Value}
+use Rattle.pg_multi.specs.declared.strength.Strength.{Strength}
 use Rattle.pg_xacts.specs.declared.me.Me.{Me}
 use Rattle.pg_heap.specs.declared.version.Version.{Version}
 use Rattle.pg_heap.specs.declared.row.Row.{Row}
 use Rattle.pg_heap.specs.Rows.{row_drawn, row_of, row_stored, row_without, rows_without, with_version}
 use Rattle.pg_world.specs.declared.placed.PlacedRow.{PlacedRow}
 use Rattle.pg_world.specs.declared.table.TableView.{TableView}
-use Rattle.pg_world.specs.Tables.{row_added, TransactionEnd, commit, rollback, next_row, placed_at, placed_stored, row_inserted, row_placed, table_after_end, version_by}
+use Rattle.pg_world.specs.Tables.{row_added, TransactionEnd, commit, rollback, next_row, placed_at, placed_stored, row_changed, row_inserted, row_locked, row_placed, table_after_end, version_by}
+use Rattle.pg_relation.specs.Locking.{Each}
 use Rattle.pg_relation.specs.Sound.{IsWaiting}
-use Rattle.pg_relation.proofs.Lists.{get_set_other}
+use Rattle.pg_heap.proofs.Lists.{changed_other}
 use Rattle.pg_relation.proofs.Owners.{slice_get-last, slice_get-more}
-use Rattle.pg_relation.proofs.Sound.{length_changed_from_one}
+use Rattle.pg_xacts.proofs.Lists.{length_changed_from_one}
 
 -- each row that is placed has drawn its number
 abbrev pub AreDrawn : ℕ → List PlacedRow → Type 0
@@ -97,28 +99,34 @@ waiting_new table me values drawn = record {
     fresh : (n : ℕ) → n ≡ suc (length table.rows) → row_of (row_drawn table.rows) n ≡ Some (record { number = next_row table; versions = [] })
     fresh n is = rw is (slice_get-last table.rows (record { number = next_row table; versions = [] }))
 
+-- a version more of another row
+fresh_stored : (rows : List Row) (row number other : ℕ) (version : Version) → (number ≡ other → ⊥) →
+    row_of rows number ≡ Some (record { number = row; versions = [] }) →
+    row_of (row_stored rows other version) number ≡ Some (record { number = row; versions = [] })
+fresh_stored rows row number other version apart is =
+    changed_other (with_version version) rows other number apart ∙ is
+
 pub waiting_inserted : (table : TableView) (by me : Me) (values : List Value) (other row : ℕ) → (row ≡ other → ⊥) →
     IsWaiting table row me values → IsWaiting (row_inserted table by other) row me values
 waiting_inserted table by me values other row apart waits = at (placed_at table.placed other)
   where
-    stored : (version : Version) (n m : ℕ) → (n ≡ m → ⊥) → row_of table.rows n ≡ Some (record { number = row; versions = [] }) →
-        row_of (row_stored table.rows m version) n ≡ Some (record { number = row; versions = [] })
-    stored version zero m apart is = absurd (cc is)
-    stored version (suc n) zero apart is = is
-    stored version (suc n) (suc m) apart is = set (slice_get table.rows m)
-      where
-        set : (o : Option Row) →
-            slice_get (option_map_or (λ one. slice_set table.rows m (with_version version one)) o table.rows) n
-            ≡ Some (record { number = row; versions = [] })
-        set None = is
-        set (Some one) = get_set_other table.rows m n (with_version version one) (λ e. apart (ap suc e)) ∙ is
-
     at : (placed : Option PlacedRow) → IsWaiting (placed_stored table by other placed) row me values
     at None = waits
     at (Some one) = record {
       placed = at_filtered row _ (λ p. not (p.row == other)) table.placed waits.placed (rw (ne_eqb row other apart) refl);
-      fresh = stored (version_by by one.values) row other apart waits.fresh;
+      fresh = fresh_stored table.rows row row other (version_by by one.values) apart waits.fresh;
     }
+
+pub waiting_changed : (table : TableView) (by me : Me) (values : List Value) (other row : ℕ) (held : Option (List Value)) →
+    (row ≡ other → ⊥) → IsWaiting table row me values → IsWaiting (row_changed table by other held) row me values
+waiting_changed table by me values other row held apart waits = record {
+  placed = waits.placed;
+  fresh = fresh_stored table.rows row row other (record { values = held; writer = by.xact; command = by.command }) apart waits.fresh;
+}
+
+pub waiting_locked : (table : TableView) (me : Me) (values : List Value) (xact other row : ℕ) (strength : Strength) →
+    IsWaiting table row me values → IsWaiting (row_locked table xact other strength) row me values
+waiting_locked table me values xact other row strength waits = record { placed = waits.placed; fresh = waits.fresh }
 
 pub waiting_ended : (table : TableView) (me : Me) (values : List Value) (row xact : ℕ) (end : TransactionEnd) →
     (me.xact ≡ xact → ⊥) → IsWaiting table row me values → IsWaiting (table_after_end xact end table) row me values
@@ -141,34 +149,7 @@ abbrev pub Drawn : TableView → Type 0
 Drawn table = AreDrawn (length table.rows) table.placed
 
 abbrev pub AllDrawn : List TableView → Type 0
-AllDrawn [] = Unit {0}
-AllDrawn (table ∷ tables) = Drawn table × AllDrawn tables
-
-pub drawn_at : (tables : List TableView) (number : ℕ) (table : TableView) → AllDrawn tables →
-    slice_get tables number ≡ Some table → Drawn table
-drawn_at [] number table all is = absurd (cc is)
-drawn_at (first ∷ tables) zero table all is = let e : first ≡ table = cc is in subst (λ t. Drawn t) e all.0
-drawn_at (first ∷ tables) (suc number) table all is = drawn_at tables number table all.1 is
-
-drawn_set : (tables : List TableView) (number : ℕ) (table : TableView) → AllDrawn tables → Drawn table →
-    AllDrawn (slice_set tables number table)
-drawn_set [] number table all one = tt
-drawn_set (first ∷ tables) zero table all one = (one, all.1)
-drawn_set (first ∷ tables) (suc number) table all one = (all.0, drawn_set tables number table all.1 one)
-
-pub drawn_changed : (change : TableView → TableView) → ((table : TableView) → Drawn table → Drawn (change table)) →
-    (tables : List TableView) (number : ℕ) → AllDrawn tables → AllDrawn (with_changed_item change tables number)
-drawn_changed change keeps tables number all = at (slice_get tables number) refl
-  where
-    at : (o : Option TableView) → slice_get tables number ≡ o →
-        AllDrawn (option_map_or (λ table. slice_set tables number (change table)) o tables)
-    at None is = all
-    at (Some table) is = drawn_set tables number (change table) all (keeps table (drawn_at tables number table all is))
-
-pub drawn_mapped : (change : TableView → TableView) → ((table : TableView) → Drawn table → Drawn (change table)) →
-    (tables : List TableView) → AllDrawn tables → AllDrawn (map change tables)
-drawn_mapped change keeps [] all = tt
-drawn_mapped change keeps (table ∷ tables) all = (keeps table all.0, drawn_mapped change keeps tables all.1)
+AllDrawn tables = Each (λ table. Drawn table) tables
 
 pub drawn_placed : (by : Me) (values : List Value) (table : TableView) → Drawn table → Drawn (row_placed table by values)
 drawn_placed by values table drawn =
@@ -182,6 +163,13 @@ drawn_inserted by row table drawn = at (placed_at table.placed row)
     at (Some one) =
         rw (length_changed_from_one (with_version (version_by by one.values)) table.rows row)
         (drawn_filtered (length table.rows) (λ p. not (p.row == row)) table.placed drawn)
+
+pub drawn_stored : (by : Me) (row : ℕ) (held : Option (List Value)) (table : TableView) → Drawn table → Drawn (row_changed table by row held)
+drawn_stored by row held table drawn =
+    rw (length_changed_from_one (with_version (record { values = held; writer = by.xact; command = by.command })) table.rows row) drawn
+
+pub drawn_locked : (xact row : ℕ) (strength : Strength) (table : TableView) → Drawn table → Drawn (row_locked table xact row strength)
+drawn_locked xact row strength table drawn = drawn
 
 pub drawn_ended : (xact : ℕ) (end : TransactionEnd) (table : TableView) → Drawn table → Drawn (table_after_end xact end table)
 drawn_ended xact commit table drawn = drawn_filtered (length table.rows) (λ p. not (p.me.xact == xact)) table.placed drawn

@@ -26,19 +26,20 @@ use Rattle.pg_relation.proofs.Runs.{legal_stepped}
 use Rattle.pg_relation.proofs.Replies.{complete_when_closed}
 
 -- statements that fit the table
-fits_begin : IsStatement (table_t ∷ []) statement.Begin
-fits_begin = record { selects = λ s is. absurd (cc is); inserts = λ i is. absurd (cc is) }
+pub fits_begin : IsStatement (table_t ∷ []) statement.Begin
+fits_begin = record { selects = λ s is. absurd (cc is); inserts = λ i is. absurd (cc is); changes = λ c is. absurd (cc is) }
 
-fits_commit : IsStatement (table_t ∷ []) statement.Commit
-fits_commit = record { selects = λ s is. absurd (cc is); inserts = λ i is. absurd (cc is) }
+pub fits_commit : IsStatement (table_t ∷ []) statement.Commit
+fits_commit = record { selects = λ s is. absurd (cc is); inserts = λ i is. absurd (cc is); changes = λ c is. absurd (cc is) }
 
-fits_rollback : IsStatement (table_t ∷ []) statement.Rollback
-fits_rollback = record { selects = λ s is. absurd (cc is); inserts = λ i is. absurd (cc is) }
+pub fits_rollback : IsStatement (table_t ∷ []) statement.Rollback
+fits_rollback = record { selects = λ s is. absurd (cc is); inserts = λ i is. absurd (cc is); changes = λ c is. absurd (cc is) }
 
 fits_insert : (insert : Insert) → IsInsert (table_t ∷ []) insert → IsStatement (table_t ∷ []) (statement.Insert insert)
 fits_insert insert fits = record {
   selects = λ s is. absurd (cc is);
   inserts = λ i is. let e : insert ≡ i = cc is in rw (← e) fits;
+  changes = λ c is. absurd (cc is);
 }
 
 fits_source : IsSource (table_t ∷ []) (Table named_t)
@@ -48,6 +49,7 @@ fits_select : IsStatement (table_t ∷ []) (statement.Select select_all)
 fits_select = record {
   selects = λ s is. let e : select_all ≡ s = cc is in rw (← e) fits;
   inserts = λ i is. absurd (cc is);
+  changes = λ c is. absurd (cc is);
 }
   where
     fits : IsSelect (table_t ∷ []) select_all
@@ -58,17 +60,17 @@ fits_select = record {
     }
 
 -- lines whose statements fit
-abbrev Fit : ℕ → List Line → Type 0
+abbrev pub Fit : ℕ → List Line → Type 0
 Fit sessions [] = Unit {0}
 Fit sessions (line ∷ lines) = IsContent sessions (table_t ∷ []) line.content × Fit sessions lines
 
-fit_all : (sessions : ℕ) (lines : List Line) → Fit sessions lines →
+pub fit_all : (sessions : ℕ) (lines : List Line) → Fit sessions lines →
     All (λ line. IsContent sessions (table_t ∷ []) line.content) lines
 fit_all sessions [] fits = All-nil (λ line. IsContent sessions (table_t ∷ []) line.content)
 fit_all sessions (line ∷ lines) fits =
     All-cons (λ line. IsContent sessions (table_t ∷ []) line.content) line lines fits.0 (fit_all sessions lines fits.1)
 
-fits_line : (sessions session : ℕ) (given : Statement) → session < sessions → IsStatement (table_t ∷ []) given →
+pub fits_line : (sessions session : ℕ) (given : Statement) → session < sessions → IsStatement (table_t ∷ []) given →
     IsContent sessions (table_t ∷ []) (Given session (Ok given))
 fits_line sessions session given within fits = record {
   session = within;
@@ -159,6 +161,7 @@ fits_next : IsStatement (table_t ∷ []) (statement.Select select_next)
 fits_next = record {
   selects = λ s is. let e : select_next ≡ s = cc is in rw (← e) fits;
   inserts = λ i is. absurd (cc is);
+  changes = λ c is. absurd (cc is);
 }
   where
     fits : IsSelect (table_t ∷ []) select_next
@@ -185,7 +188,7 @@ listed_columns_valid = record {
     first = record { number = 3; insert = insert_of (literal (int 2)) (literal (int 20)) }
 
 -- the one record at a place
-same_closed : (session other : SessionView) → Some session ≡ Some other → session.progress ≡ closed → other.progress ≡ closed
+pub same_closed : (session other : SessionView) → Some session ≡ Some other → session.progress ≡ closed → other.progress ≡ closed
 same_closed session other is ended = let e : session ≡ other = cc is in rw (← e) ended
 
 own_block_stepped : IsStepped (script_of own_block own_block_valid) own_block_journal

@@ -11,6 +11,8 @@ use Rattle.pg_model.specs.declared.journal.Tag.{Tag}
 use Rattle.pg_model.specs.declared.journal.Tag.TheVariants as tag
 use Rattle.pg_model.specs.declared.script.Script.{Script}
 use Rattle.pg_model.specs.declared.statement.Statement.{Statement}
+use Rattle.pg_model.specs.declared.statement.Statement.TheVariants as statement
+use Rattle.pg_multi.specs.declared.strength.Strength.{Strength}
 use Rattle.pg_world.specs.declared.candidate.Candidate.{Candidate}
 use Rattle.pg_world.specs.Candidates.{candidates_of}
 use Rattle.pg_world.specs.Evaluation.{OrError}
@@ -21,11 +23,13 @@ use Rattle.pg_world.specs.declared.session.Running.{Running}
 use Rattle.pg_world.specs.declared.session.SessionView.{SessionView}
 use Rattle.pg_world.specs.declared.session.Block.TheVariants.{NoBlock as no_block, OpenBlock as open_block, FailedBlock as failed_block}
 use Rattle.pg_world.specs.declared.session.Progress.TheVariants.{Idle as idle, Inside as inside, Ending as ending, Closed as closed}
-use Rattle.pg_world.specs.declared.session.Stage.TheVariants.{Between as between, Found as found, Placed as placed}
 use Rattle.pg_world.specs.Sessions.{first_running}
-use Rattle.pg_world.specs.Tables.{commit, rollback, row_inserted, row_placed}
-use Rattle.pg_world.specs.Worlds.{World, session_of, with_end_of, with_session, with_table}
+use Rattle.pg_world.specs.declared.table.TableView.{TableView}
+use Rattle.pg_world.specs.Changes.{act_on, values_to_hold}
+use Rattle.pg_world.specs.Tables.{commit, rollback, row_changed, row_inserted, row_locked, row_placed}
+use Rattle.pg_world.specs.Worlds.{World, session_of, until_end, with_end_of, with_session, with_table, with_wait}
 use Rattle.pg_relation.specs.Lines.{statement_at}
+use Rattle.pg_relation.specs.Running.{running_after_act}
 
 -- Snapped: a transaction opens where none is open, its command rises, and the statement sees the
 -- commits so far.
@@ -88,6 +92,11 @@ with_running change session idle = session
 with_running change session (ending tag) = session
 with_running change session closed = session
 
+-- the session behind an act of its open statement
+abbrev pub session_after_act : World → SessionView → EntryAct → SessionView
+session_after_act world session act =
+    with_running (running_after_act world.tables world.transactions act) session session.progress
+
 -- who acts outside a statement: nobody does
 abbrev pub nobody : Me
 nobody = record { session = 0; xact = 0; command = 0 }
@@ -106,18 +115,10 @@ proposed_in idle = []
 proposed_in (ending tag) = []
 proposed_in closed = []
 
--- the statement has taken up that candidate
-abbrev pub running_found : ℕ → Running → Running
-running_found candidate running = record running { candidate = candidate; stage = found }
-
 -- Found: the candidate of that number is taken up
 abbrev pub with_candidate : World → ℕ → SessionView → ℕ → World
 with_candidate world number session candidate =
-    with_session world number (with_running (running_found candidate) session session.progress)
-
--- the statement has placed its proposed row
-abbrev pub running_placed : ℕ → Running → Running
-running_placed row running = record running { stage = placed row }
+    with_session world number (session_after_act world session (entry.Found candidate))
 
 -- Placed: the table draws the row's number, and the proposed values wait there to be stored
 abbrev pub with_placed_row : World → ℕ → SessionView → ℕ → ℕ → World
@@ -125,18 +126,47 @@ with_placed_row world number session table row =
     with_session
     (with_table world table
     (λ view. row_placed view (me_in session.progress) (proposed_in session.progress)))
-    number (with_running (running_placed row) session session.progress)
+    number (session_after_act world session (entry.Placed table row))
 
--- the candidate has had its act, which the tag counts
-abbrev pub running_acted : Running → Running
-running_acted running = record running { stage = between; acts = running.acts + 1 }
+-- Locked: the transaction holds the row at that strength too, and the statement keeps the version
+-- that is current for it
+abbrev pub with_locked_row : World → ℕ → SessionView → ℕ → ℕ → Strength → World
+with_locked_row world number session table row strength =
+    with_session
+    (with_table world table
+    (λ view. row_locked view (me_in session.progress).xact row strength))
+    number (session_after_act world session (entry.Locked table row strength))
 
 -- Inserted: the placed values become the row's first version
 abbrev pub with_inserted_row : World → ℕ → SessionView → ℕ → ℕ → World
 with_inserted_row world number session table row =
     with_session
     (with_table world table (λ view. row_inserted view (me_in session.progress) row)) number
-    (with_running running_acted session session.progress)
+    (session_after_act world session (entry.Inserted table row))
+
+-- the values of a row, where it is to hold some
+abbrev pub values_held : OrError (Option (List Value)) → List Value
+values_held (Ok (Some values)) = values
+values_held (Ok None) = []
+values_held (Err error) = []
+
+-- what an UPDATE makes of the row of the candidate taken up last
+abbrev pub values_set : Option (OrError Statement) → List TableView → Progress → List Value
+values_set (Some (Ok (statement.Change change))) tables (inside running) =
+    values_held (values_to_hold change tables running)
+values_set _ tables _ = []
+
+-- Updated, Deleted: the row gets its newest version, with values or gone
+abbrev pub with_changed_row : World → ℕ → SessionView → ℕ → ℕ → Option (List Value) → World
+with_changed_row world number session table row values =
+    with_session
+    (with_table world table (λ view. row_changed view (me_in session.progress) row values)) number
+    (session_after_act world session (act_on table row values))
+
+-- Passed: the candidate has had an act without effect
+abbrev pub with_passed : World → ℕ → SessionView → World
+with_passed world number session =
+    with_session world number (session_after_act world session entry.Passed)
 
 -- The ends of statements, of transactions and of sessions.
 
@@ -156,13 +186,13 @@ progress_ended tag closed = closed
 -- Committed: the transaction takes the next place in the commit order
 abbrev pub with_commit : World → ℕ → SessionView → World
 with_commit world number session =
-    with_session (with_end_of world session.transaction commit) number
+    with_session (with_end_of world number session.transaction commit) number
     (without_transaction session (progress_ended tag.Commit session.progress))
 
 -- RolledBack: what the transaction did is undone
 abbrev pub with_rollback : World → ℕ → SessionView → World
 with_rollback world number session =
-    with_session (with_end_of world session.transaction rollback) number
+    with_session (with_end_of world number session.transaction rollback) number
     (without_transaction session (progress_ended tag.Rollback session.progress))
 
 -- BEGIN opens a block where there is none
@@ -177,6 +207,8 @@ block_after tag.Begin block = block_begun block
 block_after tag.Commit block = no_block
 block_after tag.Rollback block = no_block
 block_after (tag.Insert rows) block = block
+block_after (tag.Update rows) block = block
+block_after (tag.Delete rows) block = block
 block_after (tag.Select rows) block = block
 
 -- the session, whose line has its reply, between statements
@@ -209,12 +241,13 @@ session_failed session =
 -- Failed: the transaction is rolled back at once, and the error is the line's reply
 abbrev pub with_failure : World → ℕ → SessionView → World
 with_failure world number session =
-    with_session (with_end_of world session.transaction rollback) number (session_failed session)
+    with_session (with_end_of world number session.transaction rollback) number
+    (session_failed session)
 
 -- Closed: the session has ended, and its open transaction is rolled back
 abbrev pub with_closure : World → ℕ → SessionView → World
 with_closure world number session =
-    with_session (with_end_of world session.transaction rollback) number
+    with_session (with_end_of world number session.transaction rollback) number
     (without_transaction session closed)
 
 -- what an act makes of the world, for a session that stands at that statement
@@ -223,10 +256,20 @@ act_effect world number given session (entry.Snapped commits) =
     with_snapshot world number given session commits
 act_effect world number given session (entry.Found candidate) =
     with_candidate world number session candidate
+act_effect world number given session (entry.Locked table row strength) =
+    with_locked_row world number session table row strength
 act_effect world number given session (entry.Placed table row) =
     with_placed_row world number session table row
 act_effect world number given session (entry.Inserted table row) =
     with_inserted_row world number session table row
+act_effect world number given session (entry.Updated table row) =
+    with_changed_row world number session table row
+    (Some (values_set given world.tables session.progress))
+act_effect world number given session (entry.Deleted table row) =
+    with_changed_row world number session table row None
+act_effect world number given session entry.Passed = with_passed world number session
+act_effect world number given session (entry.Waits other) =
+    with_wait world number (until_end other)
 act_effect world number given session entry.Committed = with_commit world number session
 act_effect world number given session entry.RolledBack = with_rollback world number session
 act_effect world number given session (entry.Replied reply) =

@@ -1,5 +1,8 @@
 -- The words of the laws over all journals.
-use Rattle.std.specs.Prelude.{ℕ, ◌≡◌, ◌<◌, Bool, true, List, length, Some}
+use Rattle.std.specs.Prelude.{ℕ, ◌≡◌, ◌<◌, Bool, true, List, length, map, Option, Some}
+use Rattle.pg_waits.specs.Chains.{IsRing}
+use Rattle.pg_xacts.specs.declared.on.On.{On}
+use Rattle.pg_model.specs.Printed.{session_name}
 use Rattle.pg_model.specs.declared.journal.Entry.{Entry}
 use Rattle.pg_model.specs.declared.journal.EntryAct.TheVariants.{Closed}
 use Rattle.pg_model.specs.declared.script.Script.{Script}
@@ -34,6 +37,14 @@ AreClosed world =
 abbrev pub HaveAllEnded : Script → List Entry → Type 0
 HaveAllEnded script journal =
     (number : ℕ) → number < length script.sessions → last_of (acts_of number journal) ≡ Some Closed
+
+-- the names are those of the cycle that the session would close by a wait for another: the session
+-- itself, that one, and so on, each of which waits for the next, and the last of them for the
+-- session
+abbrev pub IsCycleNamed : Script → List (Option On) → ℕ → List (List ℕ) → Type 0
+IsCycleNamed script waits number names =
+    (other : ℕ) × (ring : List ℕ) × IsRing waits number other ring
+    × (names ≡ map (session_name script) ring)
 
 -- the journal that a stepped script has
 pub record IsCompleteStepped (script : Script) (journal : List Entry) : Type 0 where

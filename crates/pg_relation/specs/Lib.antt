@@ -1,6 +1,7 @@
 pub mod Lines
 pub mod Setup
 pub mod Moves
+pub mod Running
 pub mod Effect
 pub mod Journals
 pub mod Schedules
@@ -11,4 +12,7 @@ pub mod Needs
 pub mod Weight
 pub mod Sound
 pub mod Laws
+pub mod Locking
+pub mod Holds
 pub mod Worked
+pub mod WorkedChanges

@@ -33,7 +33,7 @@ run_next script run =
 abbrev pub run_after : Script → Run → Entry → Run
 run_after script run entry = record {
   world = effect script run.world entry;
-  schedule = schedule_after script run.world (settled_schedule script run.world run.schedule) entry;
+  schedule = schedule_after (settled_schedule script run.world run.schedule) entry;
 }
 
 -- the stepped order leads from the start through the entries of a journal to a world and a schedule

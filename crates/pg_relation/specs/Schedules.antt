@@ -1,7 +1,10 @@
 -- Which session of a stepped script moves next.
-use Rattle.std.specs.Prelude.{ℕ, ◌+◌, ◌&&◌, Bool, true, false, if◌then◌else◌, nat_lt, List, [], ◌∷◌, drop, take, length, Option, None, Some, is_some}
+use Rattle.std.specs.Prelude.{ℕ, ◌+◌, ◌&&◌, ◌++◌, Bool, true, false, not, if◌then◌else◌, nat_eq, nat_lt, List, [], ◌∷◌, drop, filter, find, take, length, Option, None, Some, is_some}
 use Rattle.std.specs.Option.{option_map_or}
+use Rattle.pg_waits.specs.Slots.{wait_of}
 use Rattle.pg_model.specs.declared.journal.Entry.{Entry}
+use Rattle.pg_model.specs.declared.journal.EntryAct.{EntryAct}
+use Rattle.pg_model.specs.declared.journal.EntryAct.TheVariants as entry
 use Rattle.pg_model.specs.declared.script.Line.{Line}
 use Rattle.pg_model.specs.declared.script.Script.{Script}
 use Rattle.pg_world.specs.declared.session.Progress.{Progress}
@@ -10,14 +13,16 @@ use Rattle.pg_world.specs.declared.session.Progress.TheVariants.{Idle as idle, I
 use Rattle.pg_world.specs.Worlds.{World, session_of}
 use Rattle.pg_relation.specs.Lines.{statements_given}
 
--- how many lines of the script were taken, and which session moved last
+-- how many lines of the script were taken, and which session moved last; and who has begun to wait
+-- and has not moved since, in the order in which the waits began
 pub record Schedule : Type 0 where
   pub taken : ℕ
   pub last : Option ℕ
+  pub waited : List ℕ
 
 -- no line was taken, and nobody has moved
 abbrev pub first_schedule : Schedule
-first_schedule = record { taken = 0; last = None }
+first_schedule = record { taken = 0; last = None; waited = [] }
 
 -- the session is inside a statement: a COMMIT or ROLLBACK is, until it is answered
 abbrev pub is_inside : Progress → Bool
@@ -56,16 +61,25 @@ abbrev pub or_else : {X : Type 0} → Option X → Option X → Option X
 or_else (Some answer) other = Some answer
 or_else None other = other
 
--- the number of a session, where it is inside a statement
-abbrev pub if_inside : World → ℕ → Option ℕ
-if_inside world number =
-    if option_map_or (λ session. is_inside session.progress) (session_of world number) false
-    then Some number else None
+-- whether a wait of the session stands
+abbrev pub is_waiting : World → ℕ → Bool
+is_waiting world number = is_some (wait_of world.waits number)
 
--- the session that moved last, where it is inside a statement
+-- whether the session is inside a statement, and does not wait
+abbrev pub is_going_on : World → ℕ → Bool
+is_going_on world number =
+    option_map_or (λ session. is_inside session.progress) (session_of world number) false
+    && not (is_waiting world number)
+
+-- the session that moved last, where it is inside a statement and does not wait
 abbrev pub continuing : World → Option ℕ → Option ℕ
 continuing world None = None
-continuing world (Some number) = if_inside world number
+continuing world (Some number) = if is_going_on world number then Some number else None
+
+-- of the sessions whose wait has ended and that have not moved since, the one whose wait began
+-- first
+abbrev pub waking : World → List ℕ → Option ℕ
+waking world waited = find (is_going_on world) waited
 
 -- the lowest session that is between statements and has a queued line
 abbrev pub beginning : Script → World → Schedule → Option ℕ
@@ -74,11 +88,13 @@ beginning script world schedule =
     (λ number session. is_idle session.progress && is_queued script schedule number session)
     0 world.sessions
 
--- the session that moves next without another line taken: the one that moved last, where it is
--- inside a statement; or else the lowest between statements that has a queued line
+-- the session that moves next without another line taken: the one that moved last, where it goes
+-- on; or else the one whose wait has ended; or else the lowest between statements that has a queued
+-- line
 abbrev pub ready : Script → World → Schedule → Option ℕ
 ready script world schedule =
-    or_else (continuing world schedule.last) (beginning script world schedule)
+    or_else (continuing world schedule.last)
+    (or_else (waking world schedule.waited) (beginning script world schedule))
 
 -- the next line is taken: a statement is queued for its session
 abbrev pub line_taken : Schedule → Schedule
@@ -97,17 +113,31 @@ settled_schedule script world schedule =
     schedule_behind script world schedule (drop schedule.taken script.lines)
 
 -- where no line is left to take, the lowest session between statements moves, and is closed; or
--- else the lowest inside a statement, which serves after steps in another order
+-- else the lowest that is inside a statement and does not wait, which serves after steps in another
+-- order
 abbrev pub remaining : World → Option ℕ
 remaining world =
     or_else (lowest (λ number session. is_idle session.progress) 0 world.sessions)
-    (lowest (λ number session. is_inside session.progress) 0 world.sessions)
+    (lowest (λ number session. is_going_on world number) 0 world.sessions)
 
 -- the session that moves next
 abbrev pub next_session : Script → World → Schedule → Option ℕ
 next_session script world schedule =
     or_else (ready script world (settled_schedule script world schedule)) (remaining world)
 
--- the schedule behind an entry that is made in a world: its session has moved last
-abbrev pub schedule_after : Script → World → Schedule → Entry → Schedule
-schedule_after script world schedule entry = record schedule { last = Some entry.session }
+-- the numbers that are not that one, in their order
+abbrev pub without : ℕ → List ℕ → List ℕ
+without number numbers = filter (λ other. not (nat_eq other number)) numbers
+
+-- who has waited once a session has made that act: where it begins to wait, it is the last
+abbrev pub waited_with : List ℕ → ℕ → EntryAct → List ℕ
+waited_with waited number (entry.Waits other) = waited ++ number ∷ []
+waited_with waited number _ = waited
+
+-- the schedule behind an entry: its session has moved last
+abbrev pub schedule_after : Schedule → Entry → Schedule
+schedule_after schedule made =
+    record schedule {
+      last = Some made.session;
+      waited = waited_with (without made.session schedule.waited) made.session made.act;
+    }

@@ -1,6 +1,7 @@
 -- The world after setup, or the first error that a setup INSERT raises.
-use Rattle.std.specs.Prelude.{ℕ, List, [], ◌∷◌, map, Result, Ok, Err}
+use Rattle.std.specs.Prelude.{ℕ, List, [], ◌∷◌, length, map, Result, Ok, Err}
 use Rattle.pg_lists.specs.Numbered.{with_changed_item}
+use Rattle.pg_waits.specs.Slots.{no_waits}
 use Rattle.pg_xacts.specs.declared.me.Me.{Me}
 use Rattle.pg_xacts.specs.Transactions.{no_transactions}
 use Rattle.pg_model.specs.declared.error.SqlError.{SqlError}
@@ -64,11 +65,13 @@ abbrev pub tables_after : Script → OrSetupError → List TableView
 tables_after script (Ok tables) = tables
 tables_after script (Err error) = declared_tables script
 
--- the world after setup: no transaction was begun, and each session is before its first line
+-- the world after setup: no transaction was begun, and each session is before its first line and
+-- waits for nobody
 abbrev pub first_world : Script → World
 first_world script =
     record {
       tables = tables_after script (setup_outcome script);
       transactions = no_transactions;
       sessions = map (λ name. fresh_session) script.sessions;
+      waits = no_waits (length script.sessions);
     }

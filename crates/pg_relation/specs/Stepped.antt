@@ -25,7 +25,7 @@ IsSteppedFrom script world schedule (entry ∷ entries) =
     (next_session script world schedule ≡ Some entry.session)
     × (chosen script world (settled_schedule script world schedule) entry.session ≡ Some entry.act)
     × IsSteppedFrom script (effect script world entry)
-    (schedule_after script world (settled_schedule script world schedule) entry) entries
+    (schedule_after (settled_schedule script world schedule) entry) entries
 
 -- a journal in the stepped order, from the world after setup with no line taken
 abbrev pub IsStepped : Script → List Entry → Type 0

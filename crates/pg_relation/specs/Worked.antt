@@ -142,7 +142,7 @@ failing_block_lines =
 -- the table has drawn a number, and that row has no version
 abbrev pub failing_block_tables : List TableView
 failing_block_tables =
-    record { rows = record { number = 1; versions = [] } ∷ []; placed = [] } ∷ []
+    record { rows = record { number = 1; versions = [] } ∷ []; placed = []; locks = [] ∷ [] } ∷ []
 
 -- the transaction was rolled back
 abbrev pub failing_block_transactions : Transactions
@@ -242,6 +242,7 @@ undone_blocks_tables =
     record {
       rows = record { number = 1; versions = [] } ∷ record { number = 2; versions = [] } ∷ [];
       placed = [];
+      locks = [] ∷ [] ∷ [];
     }
     ∷ []
 

@@ -2,8 +2,15 @@
 
 ghost use Rattle.std.specs.Prelude.{Ok, ◌≡◌, ◌<◌, ◌∷◌, ◌++◌, ◌↔◌, [], Bool, List, None, Some, length, true, ℕ};
 ghost use Rattle.pg_ending.specs.Weight.{IsLess};
+ghost use Rattle.pg_waits.specs.Chains.{Leads};
+ghost use Rattle.pg_waits.specs.Cycles.{HasNoCycle};
+ghost use Rattle.pg_waits.specs.Slots.{wait_of};
+ghost use Rattle.pg_xacts.specs.declared.on.On.{On};
+ghost use Rattle.pg_xacts.specs.declared.on.Until.TheVariants.{Transaction};
 ghost use Rattle.pg_model.specs.declared.journal.Entry.{Entry};
 ghost use Rattle.pg_model.specs.declared.journal.EntryAct.{EntryAct};
+ghost use Rattle.pg_model.specs.declared.journal.EntryAct.TheVariants as act;
+ghost use Rattle.pg_model.specs.declared.error.SqlError.TheVariants.{Deadlock};
 ghost use Rattle.pg_model.specs.declared.script.Script.{Script};
 ghost use Rattle.pg_model.specs.declared.statement.Insert.{Insert};
 ghost use Rattle.pg_model.specs.declared.statement.Statement.{Statement};
@@ -17,15 +24,16 @@ ghost use Rattle.pg_world.specs.declared.table.TableView.{TableView};
 ghost use Rattle.pg_world.specs.Worlds.{World, session_of, table_of};
 ghost use Rattle.pg_relation.specs.Effect.{effect};
 ghost use Rattle.pg_relation.specs.Journals.{IsLegal, replies_of, world_after};
-ghost use Rattle.pg_relation.specs.Laws.{AreClosed, HaveAllEnded, IsCompleteStepped, IsKept, candidates_now, seen_now};
+ghost use Rattle.pg_relation.specs.Laws.{AreClosed, HaveAllEnded, IsCompleteStepped, IsCycleNamed, IsKept, candidates_now, seen_now};
 ghost use Rattle.pg_relation.specs.Lines.{statement_at, statements_of};
 ghost use Rattle.pg_relation.specs.Moves.{IsPermitted, moves_of};
 ghost use Rattle.pg_relation.specs.Needs.{Needs};
 ghost use Rattle.pg_relation.specs.Schedules.{Schedule, next_session, settled_schedule};
 ghost use Rattle.pg_relation.specs.Stepped.{IsStepped, chosen, first_of_list};
-ghost use Rattle.pg_relation.specs.Sound.{IsBounded, IsSound, IsWaiting};
+ghost use Rattle.pg_relation.specs.Sound.{HasOpen, IsAtFound, IsBounded, IsSound, IsWaiting};
 ghost use Rattle.pg_relation.specs.Weight.{weight};
 ghost use Rattle.pg_relation.specs.Worked.{IsLeft, IsWorked, failing_block, failing_block_journal, failing_block_lines, failing_block_tables, failing_block_transactions, listed_columns, listed_columns_journal, listed_columns_lines, own_block, own_block_journal, own_block_lines, uncommitted_row, uncommitted_row_journal, uncommitted_row_lines, undone_blocks, undone_blocks_journal, undone_blocks_lines, undone_blocks_tables, undone_blocks_transactions};
+ghost use Rattle.pg_relation.specs.WorkedChanges.{both_raise, both_raise_journal, both_raise_lines, crossed_updates, crossed_updates_journal, crossed_updates_lines, raised_away, raised_away_journal, raised_away_lines, two_wait, two_wait_journal, two_wait_lines, undone_raise, undone_raise_journal, undone_raise_lines};
 
 /// A legal journal stays legal by an entry that is permitted in the world that it leaves.
 pub fn legal_by_permitted_entries()
@@ -59,7 +67,8 @@ pub fn legal_worlds_are_bounded()
 pub fn permitted_entries_have_their_needs()
     ensures { (script : Script) (world : World) (entry : Entry) → IsPermitted script world entry →
         (session : SessionView) × (session_of world entry.session ≡ Some session)
-        × Needs world (statement_at script entry.session session) session entry.act }
+        × Needs script world entry.session (statement_at script entry.session session) session
+        entry.act }
 {}
 
 /// Each permitted entry makes the weight of the world less, so that every run ends.
@@ -68,11 +77,12 @@ pub fn weight_falls()
         IsLess (weight script (effect script world entry)) (weight script world) }
 {}
 
-/// In the world of every legal journal each session that has not ended has a move.
+/// In the world of every legal journal each session that has not ended, and whose wait does not
+/// stand, has a move.
 pub fn live_session_moves()
     ensures { (script : Script) (journal : List Entry) (number : ℕ) (session : SessionView) →
         IsLegal script journal → session_of (world_after script journal) number ≡ Some session →
-        (session.progress ≡ closed → ⊥) →
+        (session.progress ≡ closed → ⊥) → wait_of (world_after script journal).waits number ≡ None →
         (act : EntryAct)
         × (first_of_list (moves_of script (world_after script journal) number) ≡ Some act) }
 {}
@@ -85,10 +95,63 @@ pub fn next_session_moves()
         (act : EntryAct) × (chosen script (world_after script journal) schedule number ≡ Some act) }
 {}
 
-/// No session moves next exactly where all have ended.
+/// In the world of every legal journal no session moves next exactly where all have ended.
 pub fn next_session_ends()
-    ensures { (script : Script) (world : World) (schedule : Schedule) →
-        (next_session script world schedule ≡ None) ↔ AreClosed world }
+    ensures { (script : Script) (journal : List Entry) (schedule : Schedule) →
+        IsLegal script journal →
+        (next_session script (world_after script journal) schedule ≡ None)
+        ↔ AreClosed (world_after script journal) }
+{}
+
+/// In the world of every legal journal some session has a move while one has not ended.
+pub fn some_session_moves()
+    ensures { (script : Script) (journal : List Entry) (number : ℕ) (session : SessionView) →
+        IsLegal script journal → session_of (world_after script journal) number ≡ Some session →
+        (session.progress ≡ closed → ⊥) →
+        (other : ℕ) × (act : EntryAct)
+        × (first_of_list (moves_of script (world_after script journal) other) ≡ Some act) }
+{}
+
+/// In the world of every legal journal the waits form no cycle.
+pub fn waits_form_no_cycle()
+    ensures { (script : Script) (journal : List Entry) → IsLegal script journal →
+        HasNoCycle (world_after script journal).waits }
+{}
+
+/// In the world of every legal journal a session that waits is inside a statement that has found
+/// its candidate, and has not locked the row of it.
+pub fn who_waits_has_found()
+    ensures { (script : Script) (journal : List Entry) (number : ℕ) (on : On) →
+        IsLegal script journal → wait_of (world_after script journal).waits number ≡ Some on →
+        IsAtFound (world_after script journal) number }
+{}
+
+/// In the world of every legal journal a session that is waited for has a transaction open, and has
+/// not ended; the wait is for the end of that transaction.
+pub fn who_is_waited_for_is_open()
+    ensures opened { (script : Script) (journal : List Entry) (number : ℕ) (on : On) →
+        IsLegal script journal → wait_of (world_after script journal).waits number ≡ Some on →
+        HasOpen (world_after script journal) on.session }
+    ensures until { (script : Script) (journal : List Entry) (number : ℕ) (on : On) →
+        IsLegal script journal → wait_of (world_after script journal).waits number ≡ Some on →
+        on.until ≡ Transaction }
+{}
+
+/// A statement that fails with a deadlock names the cycle that its session's wait would close: the
+/// session itself first, then the one that it would wait for, and on by the waits that stand, of
+/// which the last is for the session. A wait that begins closes no cycle.
+pub fn deadlocks_have_their_cycle()
+    ensures cycle { (script : Script) (journal : List Entry) (entry : Entry)
+        (session : SessionView) (running : Running) (names : List (List ℕ)) →
+        IsLegal script journal →
+        session_of (world_after script journal) entry.session ≡ Some session →
+        session.progress ≡ inside running →
+        IsPermitted script (world_after script journal) entry →
+        entry.act ≡ act.Failed (Deadlock names) →
+        IsCycleNamed script (world_after script journal).waits entry.session names }
+    ensures none { (script : Script) (world : World) (entry : Entry) (other : ℕ) →
+        IsPermitted script world entry → entry.act ≡ act.Waits other →
+        Leads world.waits other entry.session → ⊥ }
 {}
 
 /// Settling a schedule twice is settling it once, and leaves the session that moves next.
@@ -171,4 +234,17 @@ pub fn worked_examples()
     ensures undone { IsWorked undone_blocks undone_blocks_journal undone_blocks_lines }
     ensures left { IsLeft undone_blocks undone_blocks_journal undone_blocks_tables
         undone_blocks_transactions }
+{}
+
+/// What five small scripts do in which sessions change one row or two: no update is lost, since the
+/// second waits and works on what the first has written; a DELETE passes a row of which its
+/// condition is no longer true; a rollback leaves the row as it was; of two that wait for one the
+/// first to wait goes on first; and of two that wait for each other the second fails with the
+/// cycle.
+pub fn worked_changes()
+    ensures raised { IsWorked both_raise both_raise_journal both_raise_lines }
+    ensures passed { IsWorked raised_away raised_away_journal raised_away_lines }
+    ensures undone { IsWorked undone_raise undone_raise_journal undone_raise_lines }
+    ensures order { IsWorked two_wait two_wait_journal two_wait_lines }
+    ensures deadlock { IsWorked crossed_updates crossed_updates_journal crossed_updates_lines }
 {}

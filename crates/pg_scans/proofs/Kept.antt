@@ -1,6 +1,7 @@
 -- What holds of a reading stays, whatever others do to the tables and the transactions.
 use Rattle.std.proofs.Common.{◌≡◌, ◌≢◌, ◌≤◌, ◌+◌, ◌-◌, ◌⊎◌, inl, inr, ◌||◌, ℕ, suc, true, List, [], ◌∷◌, Option, Some, None, length, map, take, option_map, refl, ap, ap₂, sym, ◌∙◌, arith, append-nil, length-append}
 use Rattle.std.specs.Option.{option_map_or}
+use Rattle.std.specs.Prelude.{filter_map}
 use Rattle.std.proofs.lemmas.Bool.{cases_eq}
 use Rattle.std.proofs.lemmas.List.{length-map}
 use Rattle.std.proofs.lemmas.List.Elements.{filter_map-append}
@@ -10,14 +11,16 @@ use Rattle.pg_heap.specs.Seen.{is_own_earlier}
 use Rattle.pg_heap.specs.declared.slot.State.TheVariants.{Settled}
 use Rattle.pg_lists.specs.Numbered.{item_at, with_changed_item}
 use Rattle.pg_rows.specs.Scans.{seen_among, seen_below}
+use Rattle.pg_multi.specs.declared.strength.Strength.{Strength}
+use Rattle.pg_rows.proofs.Rows.{rows_drafted}
 use Rattle.pg_rows.specs.Stores.{Stored, draft_of}
 use Rattle.pg_scans.proofs.Commits.{begun_kept, committed_kept, rolled_back_kept, running_unseen}
 use Rattle.pg_scans.specs.Readings.{AreTables, IsReading, ReadingView, seen_in, versions_in}
 use Rattle.pg_table.proofs.Scanned.{scanned_is}
 use Rattle.pg_table.proofs.Shown.{placed_shown}
-use Rattle.pg_table.proofs.Steady.{below_kept, commits_kept, placing_kept, rollbacks_kept, settling_kept}
-use Rattle.pg_table.specs.Scanned.{IsPlacedUnseen, KeepCommits, in_row_order, seen_row_of}
-use Rattle.pg_table.specs.States.{IsTable, TableState, row_inserted_in, row_placed_in, state_ended, state_undone, table_shown, version_settled_in, waiting_number}
+use Rattle.pg_table.proofs.Steady.{below_kept, commits_kept, erasing_kept, erasing_longer, erasing_rows, placing_kept, rollbacks_kept, settling_kept, staging_kept, writing_kept}
+use Rattle.pg_table.specs.Scanned.{IsPlacedUnseen, IsStagedUnseen, IsUnseen, KeepCommits, in_row_order, seen_row_of}
+use Rattle.pg_table.specs.States.{IsTable, TableState, row_erased_in, row_held_in, row_inserted_in, row_placed_in, row_staged_in, row_written_in, staged_number, state_ended, state_undone, table_shown, version_settled_in, waiting_number}
 use Rattle.pg_values.specs.declared.value.Value.{Value}
 use Rattle.pg_world.specs.Candidates.{seen_row, seen_rows}
 use Rattle.pg_world.specs.declared.candidate.SeenRow.{SeenRow}
@@ -202,6 +205,62 @@ settling_keeps tables transactions reading number row kept unseen is =
     let size = settled_size state (waiting_number state row) in
     rows_by_below transactions transactions reading.snapshot.commits reading.me state (row_inserted_in state row) size.0 size.1
     (λ from. settling_kept transactions reading.snapshot.commits reading.me state row from (kept number state there) (unseen state there))))
+    is.taken is
+
+-- a row is locked
+pub locking_keeps : (tables : List TableState) (transactions : Transactions) (reading : ReadingView) (number xact row : ℕ) (strength : Strength) →
+    IsReading tables transactions reading →
+    IsReading (with_changed_item (λ state. row_held_in state xact row strength) tables number) transactions reading
+locking_keeps tables transactions reading number xact row strength is =
+    reading_kept transactions transactions tables (with_changed_item (λ state. row_held_in state xact row strength) tables number) reading
+    (changed_kept transactions reading.snapshot.commits reading.me (λ state. row_held_in state xact row strength) tables number
+    (λ state there. record { longer = omega arith; below = λ from le. refl; rows = refl }))
+    is.taken is
+
+-- new values of a row are staged
+staged_table : (transactions : Transactions) (commits : ℕ) (me by : Me) (row : ℕ) (values : List Value) (state : TableState) →
+    KeepsTable transactions transactions commits me state (row_staged_in state by row values)
+staged_table transactions commits me by row values state = record {
+  longer = let l = length-append state.store.versions (draft_of by row (Some values) ∷ []) in omega (arith, l);
+  below = staging_kept transactions commits me state by row values;
+  rows = ap (filter_map (seen_row transactions commits me)) (rows_drafted state.store by row (Some values));
+}
+
+pub staging_keeps : (tables : List TableState) (transactions : Transactions) (reading : ReadingView) (number : ℕ) (by : Me) (row : ℕ) (values : List Value) →
+    IsReading tables transactions reading →
+    IsReading (with_changed_item (λ state. row_staged_in state by row values) tables number) transactions reading
+staging_keeps tables transactions reading number by row values is =
+    reading_kept transactions transactions tables (with_changed_item (λ state. row_staged_in state by row values) tables number) reading
+    (changed_kept transactions reading.snapshot.commits reading.me (λ state. row_staged_in state by row values) tables number
+    (λ state there. staged_table transactions reading.snapshot.commits reading.me by row values state))
+    is.taken is
+
+-- what was staged is written
+pub writing_keeps : (tables : List TableState) (transactions : Transactions) (reading : ReadingView) (number row : ℕ) → AreTables tables →
+    ((state : TableState) → item_at tables number ≡ Some state → IsStagedUnseen transactions reading.snapshot.commits reading.me state row) →
+    IsReading tables transactions reading →
+    IsReading (with_changed_item (λ state. row_written_in state row) tables number) transactions reading
+writing_keeps tables transactions reading number row kept unseen is =
+    reading_kept transactions transactions tables (with_changed_item (λ state. row_written_in state row) tables number) reading
+    (changed_kept transactions reading.snapshot.commits reading.me (λ state. row_written_in state row) tables number
+    (λ state there.
+    let size = settled_size state (staged_number state row) in
+    rows_by_below transactions transactions reading.snapshot.commits reading.me state (row_written_in state row) size.0 size.1
+    (λ from. writing_kept transactions reading.snapshot.commits reading.me state row from (kept number state there) (unseen state there))))
+    is.taken is
+
+-- a row is erased
+pub erasing_keeps : (tables : List TableState) (transactions : Transactions) (reading : ReadingView) (number : ℕ) (by : Me) (row : ℕ) →
+    IsUnseen transactions reading.snapshot.commits reading.me by.xact → IsReading tables transactions reading →
+    IsReading (with_changed_item (λ state. row_erased_in state by row) tables number) transactions reading
+erasing_keeps tables transactions reading number by row unseen is =
+    reading_kept transactions transactions tables (with_changed_item (λ state. row_erased_in state by row) tables number) reading
+    (changed_kept transactions reading.snapshot.commits reading.me (λ state. row_erased_in state by row) tables number
+    (λ state there. record {
+      longer = erasing_longer transactions reading.snapshot.commits reading.me state by row unseen;
+      below = erasing_kept transactions reading.snapshot.commits reading.me state by row unseen;
+      rows = erasing_rows transactions reading.snapshot.commits reading.me state by row unseen;
+    }))
     is.taken is
 
 pub beginning_keeps : (tables : List TableState) (transactions : Transactions) (reading : ReadingView) (session : ℕ) →

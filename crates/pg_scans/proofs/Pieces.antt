@@ -1,5 +1,5 @@
 -- A piece takes a reading on, and fewer pieces are left.
-use Rattle.std.proofs.Common.{◌≡◌, ◌<◌, ◌≤◌, ◌+◌, ◌-◌, ◌++◌, ℕ, zero, suc, Bool, true, false, cond, List, [], ◌∷◌, Option, Some, None, length, map, max, take, drop, slice_get, nat_le, option_map, option_and_then, refl, ap, ap₂, sym, subst, ◌∙◌, arith, append-nil}
+use Rattle.std.proofs.Common.{◌≡◌, ◌<◌, ◌≤◌, ◌+◌, ◌-◌, ◌*◌, ◌++◌, ℕ, zero, suc, Bool, true, false, cond, List, [], ◌∷◌, Option, Some, None, length, map, max, take, drop, slice_get, nat_le, option_map, option_and_then, refl, ap, ap₂, sym, subst, ◌∙◌, arith, append-nil}
 use Rattle.std.specs.Prelude.{filter_map}
 use Rattle.std.specs.List.{cons_option}
 use Rattle.std.specs.Option.{option_map_or}
@@ -18,7 +18,7 @@ use Rattle.pg_world.specs.declared.candidate.SeenRow.{SeenRow}
 use Rattle.pg_table.proofs.Scanned.{scanned_is}
 use Rattle.pg_table.specs.Scanned.{in_row_order, seen_row_of}
 use Rattle.pg_table.specs.States.{IsTable, TableState, table_shown}
-use Rattle.pg_scans.specs.Readings.{AreDrawn, IsReading, ReadingView, found_in, next_in, pieces_left, pieces_of, present_versions, reading_gone_on, rows_with, seen_in, table_gone_through, tables_left, versions_in}
+use Rattle.pg_scans.specs.Readings.{AreDrawn, HaveVersions, IsReading, ReadingView, found_in, next_in, pieces_left, present_versions, reading_gone_on, rows_with, seen_in, table_gone_through, tables_left, versions_in}
 
 -- lists by one item more
 module _ {X : Type 0} where
@@ -40,6 +40,23 @@ module _ {X : Type 0} where
 one_longer : {X : Type 0} (xs : List X) (x : X) → length (xs ++ x ∷ []) ≡ suc (length xs)
 one_longer [] x = refl
 one_longer (y ∷ ys) x = ap suc (one_longer ys x)
+
+-- the pieces of the tables behind the present one, where no table has more than so many versions
+abbrev others_left : ℕ → ReadingView → ℕ
+others_left most reading = length (drop (suc (length reading.seen)) reading.tables) * (1 + most)
+
+left_is : (most : ℕ) (reading : ReadingView) (number : ℕ) → item_at reading.tables (length reading.seen) ≡ Some number →
+    length (tables_left reading) * (1 + most) ≡ 1 + most + others_left most reading
+left_is most reading number there =
+    ap (λ xs. length xs * (1 + most)) (drop_next reading.tables (length reading.seen) number there)
+    ∙ one_more (length (drop (suc (length reading.seen)) reading.tables)) (1 + most)
+  where
+    one_more : (n m : ℕ) → suc n * m ≡ m + n * m
+    one_more n m = grind arith
+
+left_behind : (most : ℕ) (reading : ReadingView) (rows : List SeenRow) →
+    length (drop (length (reading.seen ++ rows ∷ [])) reading.tables) * (1 + most) ≡ others_left most reading
+left_behind most reading rows = ap (λ n. length (drop n reading.tables) * (1 + most)) (one_longer reading.seen rows)
 
 -- the number behind a piece
 record IsNext (last from next : ℕ) : Type 0 where
@@ -155,33 +172,27 @@ module _ (tables : List TableState) (transactions : Transactions) (reading : Rea
       rows : List SeenRow
       rows = in_row_order state.store.drawn (rows_with reading found)
 
-  -- how many pieces are left
-  abbrev others_left : ℕ
-  others_left = pieces_of tables (drop (suc (length reading.seen)) reading.tables)
-
-  pub left_is : pieces_of tables (tables_left reading) ≡ 1 + length state.store.versions + others_left
-  left_is =
-      ap (pieces_of tables) (drop_next reading.tables (length reading.seen) number there)
-      ∙ ap (λ o. (1 + length (option_map_or (λ s. s.store.versions) o [])) + others_left) at
-
-  pub less_on : (next : ℕ) → next_in state reading ≡ Some next →
-      pieces_left tables (reading_gone_on reading (found_in transactions state reading) next) < pieces_left tables reading
-  less_on next goes =
+  -- fewer pieces are left
+  pub less_on : (next : ℕ) → next_in state reading ≡ Some next → (most : ℕ) → HaveVersions most tables →
+      pieces_left most (reading_gone_on reading (found_in transactions state reading) next) < pieces_left most reading
+  less_on next goes most few =
       let n = next_is (length state.store.versions) reading.from next is.first goes in
       let less = n.greater in
       let le = n.within in
       let first = is.first in
-      let left = left_is in
-      omega (arith, less, le, first, left)
+      let bound = few number state at in
+      let left = left_is most reading number there in
+      omega (arith, less, le, first, bound, left)
 
-  pub less_through : (rows : List SeenRow) (part : List SeenRow) →
-      pieces_left tables (record reading { seen = reading.seen ++ rows ∷ []; part = part; from = 1 }) < pieces_left tables reading
-  less_through rows part =
+  pub less_through : (rows : List SeenRow) (part : List SeenRow) (most : ℕ) → HaveVersions most tables →
+      pieces_left most (record reading { seen = reading.seen ++ rows ∷ []; part = part; from = 1 }) < pieces_left most reading
+  less_through rows part most few =
       let range = in_range in
       let first = is.first in
-      let left = left_is in
-      let now : pieces_of tables (drop (length (reading.seen ++ rows ∷ [])) reading.tables) ≡ others_left = ap (λ n. pieces_of tables (drop n reading.tables)) (one_longer reading.seen rows) in
-      omega (arith, range, first, left, now)
+      let bound = few number state at in
+      let left = left_is most reading number there in
+      let now = left_behind most reading rows in
+      omega (arith, range, first, bound, left, now)
 
 -- a table that is not there
 module _ (tables : List TableState) (transactions : Transactions) (reading : ReadingView) (number : ℕ)
@@ -227,22 +238,23 @@ module _ (tables : List TableState) (transactions : Transactions) (reading : Rea
     within = omega arith;
   }
 
-  pub less_over : pieces_left tables (table_gone_through 0 reading []) < pieces_left tables reading
-  less_over =
+  pub less_over : (most : ℕ) → pieces_left most (table_gone_through 0 reading []) < pieces_left most reading
+  less_over most =
       let first = at_first in
-      let left : pieces_of tables (tables_left reading) ≡ 1 + 0 + pieces_of tables (drop (suc (length reading.seen)) reading.tables)
-      = ap (pieces_of tables) (drop_next reading.tables (length reading.seen) number there)
-      ∙ ap (λ o. (1 + length (option_map_or (λ s. s.store.versions) o [])) + pieces_of tables (drop (suc (length reading.seen)) reading.tables)) missing in
-      let now : pieces_of tables (drop (length (reading.seen ++ [] ∷ [])) reading.tables) ≡ pieces_of tables (drop (suc (length reading.seen)) reading.tables)
-      = ap (λ n. pieces_of tables (drop n reading.tables)) (one_longer reading.seen []) in
+      let left = left_is most reading number there in
+      let now = left_behind most reading [] in
       omega (arith, first, left, now)
+
+-- fewer pieces are left, however many versions the tables have
+abbrev FewerLeft : List TableState → ReadingView → ReadingView → Type 0
+FewerLeft tables reading after = (most : ℕ) → HaveVersions most tables → pieces_left most after < pieces_left most reading
 
 -- what a piece leaves, by what the code has found
 pub read_on : (tables : List TableState) (transactions : Transactions) (reading after : ReadingView) (number : ℕ) (state : TableState)
     (found : List SeenVersion) (next : Option ℕ) (from : ℕ) → item_at reading.tables (length reading.seen) ≡ Some number →
     Some state ≡ item_at tables number → IsReading tables transactions reading → found ≡ found_in transactions state reading →
     next ≡ next_in state reading → next ≡ Some from → after ≡ reading_gone_on reading found from →
-    IsReading tables transactions after × (pieces_left tables after < pieces_left tables reading)
+    IsReading tables transactions after × FewerLeft tables reading after
 read_on tables transactions reading after number state found next from there at is seen behind goes made =
     let e = made ∙ ap (λ xs. reading_gone_on reading xs from) seen in
     let n = sym behind ∙ goes in
@@ -253,7 +265,7 @@ pub read_through : (tables : List TableState) (transactions : Transactions) (rea
     Some state ≡ item_at tables number → IsReading tables transactions reading → IsTable state → found ≡ found_in transactions state reading →
     next ≡ next_in state reading → next ≡ None →
     ((drawn : ℕ) → AreDrawn drawn (rows_with reading found) → after ≡ table_gone_through drawn reading found) →
-    IsReading tables transactions after × (pieces_left tables after < pieces_left tables reading)
+    IsReading tables transactions after × FewerLeft tables reading after
 read_through tables transactions reading after number state found next there at is table seen behind ends made =
     let n = sym behind ∙ ends in
     let drawn : AreDrawn state.store.drawn (rows_with reading found)
@@ -267,9 +279,9 @@ read_through tables transactions reading after number state found next there at 
 pub read_over : (tables : List TableState) (transactions : Transactions) (reading after : ReadingView) (number : ℕ) (found : List SeenVersion) →
     item_at reading.tables (length reading.seen) ≡ Some number → None ≡ item_at tables number → IsReading tables transactions reading → found ≡ [] →
     ((drawn : ℕ) → AreDrawn drawn (rows_with reading found) → after ≡ table_gone_through drawn reading found) →
-    IsReading tables transactions after × (pieces_left tables after < pieces_left tables reading)
+    IsReading tables transactions after × FewerLeft tables reading after
 read_over tables transactions reading after number found there missing is none made =
     let drawn : AreDrawn 0 (rows_with reading found)
     = subst (λ xs. AreDrawn 0 (rows_with reading xs)) (sym none) (none_drawn tables transactions reading number there (sym missing) is) in
     let e = made 0 drawn ∙ ap (λ xs. table_gone_through 0 reading xs) none in
-    rw e (passed_over tables transactions reading number there (sym missing) is, less_over tables transactions reading number there (sym missing) is)
+    rw e (passed_over tables transactions reading number there (sym missing) is, λ most few. less_over tables transactions reading number there (sym missing) is most)

@@ -1,6 +1,6 @@
 -- A statement that still reads its tables, piece by piece: how far it has come, and that what it
 -- has collected is what it sees.
-use Rattle.std.specs.Prelude.{ℕ, ◌≡◌, ◌+◌, ◌-◌, ◌<◌, ◌≤◌, ◌++◌, All, Bool, max, nat_le, List, [], ◌∷◌, drop, length, map, take, Option, Some}
+use Rattle.std.specs.Prelude.{ℕ, ◌≡◌, ◌+◌, ◌-◌, ◌*◌, ◌<◌, ◌≤◌, ◌++◌, All, Bool, nat_le, List, [], ◌∷◌, drop, length, map, take, Option, Some}
 use Rattle.std.specs.Option.{option_map_or}
 use Rattle.pg_lists.specs.Numbered.{item_at}
 use Rattle.pg_xacts.specs.declared.me.Me.{Me}
@@ -72,21 +72,17 @@ pub record IsReading (tables : List TableState) (transactions : Transactions)
 
 -- How many pieces are left at most.
 
--- for each table one, and one for each of its version numbers
-abbrev pub pieces_of : List TableState → List ℕ → ℕ
-pieces_of tables [] = 0
-pieces_of tables (number ∷ numbers) =
-    (1 + length (versions_in tables number)) + pieces_of tables numbers
+-- no table has more than so many versions
+abbrev pub HaveVersions : ℕ → List TableState → Type 0
+HaveVersions most tables =
+    (number : ℕ) (state : TableState) → item_at tables number ≡ Some state →
+    length state.store.versions ≤ most
 
--- those of the tables left, less the version numbers that were gone over; each piece goes over one
--- at least, or ends its table
-abbrev pub pieces_left : List TableState → ReadingView → ℕ
-pieces_left tables reading = pieces_of tables (tables_left reading) - (reading.from - 1)
-
--- the greatest number of versions of a table
-abbrev pub most_versions : List TableState → ℕ
-most_versions [] = 0
-most_versions (state ∷ tables) = max (length state.store.versions) (most_versions tables)
+-- where no table has more than so many versions: for each table left one, and one for each of so
+-- many version numbers, less those that were gone over; each piece goes over one at least, or ends
+-- its table
+abbrev pub pieces_left : ℕ → ReadingView → ℕ
+pieces_left most reading = length (tables_left reading) * (1 + most) - (reading.from - 1)
 
 -- What a piece makes of a reading.
 

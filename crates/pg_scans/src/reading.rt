@@ -1,6 +1,6 @@
 ghost use Rattle.std.specs.Prelude.{◌≡◌, ◌<◌, IfOk, OnErr, OnOk, Some, false, length, ℕ};
 ghost use Rattle.pg_lists.specs.Numbered.{item_at};
-ghost use Rattle.pg_scans.specs.Readings.{AreDrawn, IsReading, found_in, is_all_read, new_reading, next_in, pieces_left, reading_gone_on, rows_with, table_gone_through};
+ghost use Rattle.pg_scans.specs.Readings.{AreDrawn, HaveVersions, IsReading, found_in, is_all_read, new_reading, next_in, pieces_left, reading_gone_on, rows_with, table_gone_through};
 ghost use Rattle.pg_table.specs.States.{IsTable};
 ghost use Rattle.pg_xacts.specs.Snapshots.{WasTakenOf};
 
@@ -97,8 +97,8 @@ impl Reading {
         requires reading { IsReading tables.now xacts.now self.old }
         requires left { is_all_read self.old ≡ false }
         ensures ok { OnOk result (IsReading tables.now xacts.now self.new) }
-        ensures less { OnOk result (pieces_left tables.now self.new
-            < pieces_left tables.now self.old) }
+        ensures less { OnOk result ((most : ℕ) → HaveVersions most tables.now →
+            pieces_left most self.new < pieces_left most self.old) }
         ensures reader { self.new ≡ record self.old {
           seen = self.new.seen;
           part = self.new.part;

@@ -9,12 +9,13 @@ use Rattle.pg_model.specs.declared.catalogue.TableShape.{TableShape}
 use Rattle.pg_model.specs.declared.script.Line.{Line}
 use Rattle.pg_model.specs.declared.script.Mode.{Mode}
 use Rattle.pg_model.specs.declared.script.SetupInsert.{SetupInsert}
+use Rattle.pg_model.specs.declared.statement.Change.{Change}
 use Rattle.pg_model.specs.declared.statement.Insert.{Insert}
 use Rattle.pg_model.specs.declared.statement.Select.{Select}
 use Rattle.pg_model.specs.declared.statement.Statement.{Statement}
 use Rattle.pg_model.specs.Limits.{is_written, most_sessions}
 use Rattle.pg_model.specs.Scripts.{IsContent, IsScript}
-use Rattle.pg_model.specs.Statements.{IsInsert, IsSelect, IsStatement, is_catalogue}
+use Rattle.pg_model.specs.Statements.{IsChange, IsInsert, IsSelect, IsStatement, is_catalogue}
 use Rattle.pg_line.specs.declared.form.LineForm.{LineForm}
 use Rattle.pg_line.proofs.Within.{each_form_is_within}
 use Rattle.pg_script.specs.declared.draft.Draft.{Draft}
@@ -60,12 +61,23 @@ select_grows catalogue more select fits =
       condition = fits.condition;
     }
 
+change_grows : (catalogue more : List TableShape) (change : Change) → IsChange catalogue change →
+    IsChange (catalogue ++ more) change
+change_grows catalogue more change fits =
+    record {
+      target = at_grows catalogue more change.target.table change.target.shape fits.target;
+      sources = λ k d below named is. at_grows catalogue more named.table named.shape (fits.sources k d below named is);
+      action = fits.action;
+      condition = fits.condition;
+    }
+
 statement_grows : (catalogue more : List TableShape) (given : Statement) → IsStatement catalogue given →
     IsStatement (catalogue ++ more) given
 statement_grows catalogue more given fits =
     record {
       selects = λ select is. select_grows catalogue more select (fits.selects select is);
       inserts = λ insert is. insert_grows catalogue more insert (fits.inserts insert is);
+      changes = λ change is. change_grows catalogue more change (fits.changes change is);
     }
 
 -- ---- one line more

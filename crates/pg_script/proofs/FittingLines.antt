@@ -24,8 +24,8 @@ use Rattle.pg_line.specs.declared.form.LineForm.{LineForm}
 use Rattle.pg_line.specs.declared.form.LineForm.TheVariants as form
 use Rattle.pg_line.specs.declared.form.SessionName.{SessionName}
 use Rattle.pg_line.specs.Laws.{is_form_within, is_named, is_within}
-use Rattle.pg_analyse.specs.declared.fault.AnalyseFault.{AnalyseFault}
-use Rattle.pg_analyse.specs.declared.fault.AnalyseFault.TheVariants as fault
+use Rattle.pg_resolve.specs.declared.fault.AnalyseFault.{AnalyseFault}
+use Rattle.pg_resolve.specs.declared.fault.AnalyseFault.TheVariants as fault
 use Rattle.pg_analyse.specs.Analysis.{analysis, declaration}
 use Rattle.pg_analyse.proofs.Fitting.{declarations_fit}
 use Rattle.pg_analyse.proofs.FittingStatements.{statements_fit}
@@ -154,6 +154,7 @@ insert_fits catalogue number (form.Setup (Ok tree)) within = at (analysis catalo
     at (Ok statement.Commit) is = All-nil (Stored catalogue)
     at (Ok statement.Rollback) is = All-nil (Stored catalogue)
     at (Ok (statement.Select select)) is = All-nil (Stored catalogue)
+    at (Ok (statement.Change change)) is = All-nil (Stored catalogue)
     at (Err why) is = All-nil (Stored catalogue)
 insert_fits catalogue number (form.Setup (Err why)) within = All-nil (Stored catalogue)
 insert_fits catalogue number form.Comment within = All-nil (Stored catalogue)

@@ -9,7 +9,7 @@ use Rattle.pg_parse_stmt.specs.declared.tree.StmtTree.{StmtTree}
 use Rattle.pg_parse_stmt.specs.declared.tree.StmtTree.TheVariants as stmt
 use Rattle.pg_model.specs.declared.catalogue.TableShape.{TableShape}
 use Rattle.pg_model.specs.declared.statement.NamedTable.{NamedTable}
-use Rattle.pg_analyse.specs.declared.fault.AnalyseFault.TheVariants as fault
+use Rattle.pg_resolve.specs.declared.fault.AnalyseFault.TheVariants as fault
 use Rattle.pg_analyse.specs.Analysis.{analysis, insert_analysis}
 use Rattle.pg_analyse.specs.Built.{is_built_statement}
 use Rattle.pg_analyse.specs.Queries.{table_named, table_names}
@@ -80,8 +80,8 @@ setup_grows catalogue more stmt.Commit is fine = refl
 setup_grows catalogue more stmt.Rollback is fine = refl
 setup_grows catalogue more (stmt.Select select) is fine = absurd (let e : false ≡ true = is in cc)
 setup_grows catalogue more (stmt.Insert insert) is fine = built_grows catalogue more insert fine
-setup_grows catalogue more (stmt.Update update) is fine = refl
-setup_grows catalogue more (stmt.Delete delete) is fine = refl
+setup_grows catalogue more (stmt.Update update) is fine = absurd (let e : false ≡ true = is in cc)
+setup_grows catalogue more (stmt.Delete delete) is fine = absurd (let e : false ≡ true = is in cc)
 setup_grows catalogue more (stmt.Merge merge) is fine = refl
 setup_grows catalogue more (stmt.CreateTable table) is fine = refl
 setup_grows catalogue more (stmt.CreateIndex index) is fine = refl

@@ -11,8 +11,8 @@ use Rattle.pg_model.specs.declared.statement.Statement.{Statement}
 use Rattle.pg_model.specs.declared.statement.Statement.TheVariants as statement
 use Rattle.pg_line.specs.declared.form.LineForm.{LineForm}
 use Rattle.pg_line.specs.declared.form.LineForm.TheVariants as form
-use Rattle.pg_analyse.specs.declared.fault.AnalyseFault.{AnalyseFault}
-use Rattle.pg_analyse.specs.declared.fault.AnalyseFault.TheVariants as fault
+use Rattle.pg_resolve.specs.declared.fault.AnalyseFault.{AnalyseFault}
+use Rattle.pg_resolve.specs.declared.fault.AnalyseFault.TheVariants as fault
 use Rattle.pg_analyse.specs.Analysis.{analysis, declaration}
 use Rattle.pg_script.specs.Appearances.{first_appearances}
 

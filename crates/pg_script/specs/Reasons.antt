@@ -16,8 +16,8 @@ use Rattle.pg_line.specs.declared.form.LineForm.TheVariants as form
 use Rattle.pg_line.specs.declared.form.PlaceFault.{PlaceFault}
 use Rattle.pg_line.specs.declared.form.PlaceFault.TheVariants as place
 use Rattle.pg_line.specs.declared.form.SessionName.{SessionName}
-use Rattle.pg_analyse.specs.declared.fault.AnalyseFault.{AnalyseFault}
-use Rattle.pg_analyse.specs.declared.fault.AnalyseFault.TheVariants as fault
+use Rattle.pg_resolve.specs.declared.fault.AnalyseFault.{AnalyseFault}
+use Rattle.pg_resolve.specs.declared.fault.AnalyseFault.TheVariants as fault
 use Rattle.pg_analyse.specs.Analysis.{analysis, declaration}
 use Rattle.pg_analyse.specs.Built.{is_empty}
 use Rattle.pg_script.specs.declared.fault.Reason.{Reason}

@@ -61,8 +61,11 @@ rc 1 stepped // setup: INSERT INTO t VALUES (1) RETURNING k => line 2: later
 rc 1 stepped // a: INSERT INTO t SELECT k FROM u => line 2: later
 rc 1 stepped // a: INSERT INTO t VALUES (1) ON CONFLICT (k) DO UPDATE SET k = 2 => line 2: later
 rc 1 stepped // a: INSERT INTO t VALUES (1) RETURNING * => line 2: later
-rc 1 stepped // a: UPDATE t SET k = 1 => line 2: later
-rc 1 stepped // a: DELETE FROM t => line 2: later
+rc 1 stepped // a: UPDATE t SET k = 1 FROM u => line 2: later
+rc 1 stepped // a: UPDATE t SET k = 1 RETURNING k => line 2: later
+rc 1 stepped // a: UPDATE t SET k = merge_action() => line 2: later
+rc 1 stepped // a: DELETE FROM t USING u => line 2: later
+rc 1 stepped // a: DELETE FROM t RETURNING * => line 2: later
 rc 1 stepped // a: MERGE INTO t USING u ON t.k = u.k WHEN MATCHED THEN DELETE => line 2: later
 rc 1 stepped // a: SELECT t.k FROM t, u => line 2: later
 rc 1 stepped // a: SELECT t.k FROM t JOIN u ON t.k = u.k => line 2: later
@@ -112,6 +115,8 @@ rc 1 stepped // setup: BEGIN => line 2: place
 rc 1 stepped // setup: END WORK => line 2: place
 rc 1 stepped // setup: ABORT; => line 2: place
 rc 1 stepped // setup: CREATE TABLE t (k integer) // setup: SELECT k FROM t => line 3: place
+rc 1 stepped // setup: UPDATE t SET k = 1 => line 2: place
+rc 1 stepped // setup: DELETE FROM t => line 2: place
 rc 1 stepped // a: CREATE TABLE t (k integer) => line 2: place";
 
 /// Faults with a place, one on a line.
@@ -179,13 +184,13 @@ rc 1 stepped // a: BEGIN // # // hello // a: SELEC => line 4: line
 rc 1 stepped // setup: INSERT INTO t VALUES (1) // hello => line 2: 42P01 relation \"t\" does not exist
 rc 1 stepped // a: SELECT k FROM t // hello => line 3: line
 rc 1 stepped // a: CREATE UNIQUE INDEX i ON t (k) => line 2: later
-rc 1 stepped // setup: UPDATE t SET k = 1 => line 2: later
+rc 1 stepped // setup: MERGE INTO t USING u ON t.k = u.k WHEN MATCHED THEN DELETE => line 2: later
 rc 1 stepped // a: BEGIN // setup: CREATE UNIQUE INDEX i ON t (k) => line 3: later
-rc 1 stepped // {32 s$: BEGIN // }z: DELETE FROM t => line 34: later
+rc 1 stepped // {32 s$: BEGIN // }z: INSERT INTO t VALUES (1) RETURNING k => line 34: later
 rc 1 stepped // {32 s$: BEGIN // }go z => line 34: later
-rc 1 stepped // a: DELETE FROM t # => line 2: byte at 18
-rc 1 stepped // a: UPDATE t SET k = 9223372036854775808 => line 2: literal at 21
-rc 1 stepped // {64 n}: DELETE FROM t => line 2: name at 1
+rc 1 stepped // a: INSERT INTO t VALUES (1) RETURNING k # => line 2: byte at 41
+rc 1 stepped // a: INSERT INTO t VALUES (9223372036854775808) RETURNING k => line 2: literal at 26
+rc 1 stepped // {64 n}: INSERT INTO t VALUES (1) RETURNING k => line 2: name at 1
 rc 1 stepped // hello # => line 2: line
 rc 1 stepped // hello é 'x => line 2: line
 rc 1 stepped // a: BEGIN // setup: BEGIN => line 3: order
@@ -264,7 +269,7 @@ rc 1 stepped // setup: CREATE TABLE t (k integer) // a: SELECT {200 (}k{200 )} F
 rc 1 stepped // a: SELECT t.k FROM {7 t, }t => line 2: later
 rc 1 stepped // a: SELECT t.k FROM {8 t, }t => line 2: items at 44";
 
-/// The tables of the scripts of `INSERTS` and `SELECTS`.
+/// The tables of the scripts of `INSERTS`, `SELECTS` and `CHANGES`.
 const TABLE: &str =
     "rc 1 stepped // setup: CREATE TABLE t (k integer, v text, b bigint, o boolean) // ";
 
@@ -353,6 +358,33 @@ SELECT * FROM t WHERE k => 42804 kinds do not fit
 SELECT * FROM t WHERE v || 'x' => 42804 kinds do not fit
 SELECT * FROM t WHERE NULL + NULL => 42804 kinds do not fit";
 
+/// UPDATEs and DELETEs of that table, each with what analysis answers.
+const CHANGES: &str = "UPDATE t SET k = 1 => fits
+update T set K = k + 1, V = 'x' || v where o; => fits
+UPDATE t AS x SET k = x.b, b = x.k WHERE x.v IS NULL => fits
+UPDATE t x SET k = NULL, v = NULL, b = NULL, o = NULL => fits
+UPDATE t SET k = 1 / 0 WHERE NULL => fits
+UPDATE nope SET x = y, x = y WHERE 1 => 42P01 relation \"nope\" does not exist
+UPDATE t SET x = nope.k => 42703 column \"x\" does not exist
+UPDATE t SET k = 1, v = 'x', K = 2, x = 3 => 42601 column \"k\" is set more than once
+UPDATE t SET k = y, k = 2 => 42601 column \"k\" is set more than once
+UPDATE t SET x = 1, x = 2 => 42703 column \"x\" does not exist
+UPDATE t AS x SET k = t.k => 42P01 relation \"t\" does not exist
+UPDATE t SET v = 1, k = x => 42703 column \"x\" does not exist
+UPDATE t SET v = 1 WHERE x => 42703 column \"x\" does not exist
+UPDATE t SET k = k + v WHERE k => 42883 operator or function does not take these kinds
+UPDATE t SET v = 1 WHERE o AND k => 42883 operator or function does not take these kinds
+UPDATE t SET k = 1 WHERE k => 42804 kinds do not fit
+UPDATE t SET k = v => 42804 kinds do not fit
+UPDATE t SET k = 1, o = k WHERE o => 42804 kinds do not fit
+DELETE FROM t => fits
+delete from t as x where x.k = k and y is null => 42703 column \"y\" does not exist
+DELETE FROM t WHERE t.k = 1 OR NULL; => fits
+DELETE FROM nope WHERE x => 42P01 relation \"nope\" does not exist
+DELETE FROM t x WHERE t.k = 1 => 42P01 relation \"t\" does not exist
+DELETE FROM t WHERE - v IS NULL => 42883 operator or function does not take these kinds
+DELETE FROM t WHERE k => 42804 kinds do not fit";
+
 /// Declarations behind that of `t`.
 const DECLARATIONS: &str =
     "CREATE TABLE u (k integer, v text, b bigint, o boolean, i int, p bool) => fits
@@ -372,7 +404,8 @@ rc 1 free // b: BEGIN WORK // A: END // B: COMMIT TRANSACTION // a: ABORT // KEY
 rc 1 stepped // setup: CREATE TABLE T (K int, v TEXT) // # // setup: INSERT INTO t (V, k) VALUES ('x', 1), ('y', 2) // setup: CREATE TABLE u (o bool, b bigint) // setup: INSERT INTO u VALUES (true) => stepped, table t k integer v text, table u o boolean b bigint, 4 setup insert 2 into 0 1 0, 6 setup insert 1 into 1 0 1
 rc 1 stepped // a: INSERT INTO t VALUES (1) // b: SELECT x FROM t // c: SELECT k FROM u => stepped, a, b, c, 2 session 0 42P01 relation \"t\" does not exist, 3 session 1 42P01 relation \"t\" does not exist, 4 session 2 42P01 relation \"u\" does not exist
 rc 1 stepped // setup: CREATE TABLE t (k integer, v integer) // a: BEGIN // a: INSERT INTO t VALUES (1, 10) // b: SELECT * FROM t // a: SELECT k + 1, v FROM t WHERE k = 1 // a: COMMIT // b: SELECT * FROM t => stepped, a, b, table t k integer v integer, 3 session 0 begin, 4 session 0 insert 1 into 0 0 1, 5 session 1 select 2 from 0, 6 session 0 select 2 from 0 where, 7 session 0 commit, 8 session 1 select 2 from 0
-rc 1 stepped // setup: CREATE TABLE t (k integer, v integer) // a: BEGIN // a: INSERT INTO t VALUES (2147483647 + 1, 1) // a: SELECT * FROM t // a: COMMIT // a: SELECT x FROM t => stepped, a, table t k integer v integer, 3 session 0 begin, 4 session 0 insert 1 into 0 0 1, 5 session 0 select 2 from 0, 6 session 0 commit, 7 session 0 42703 column \"x\" does not exist";
+rc 1 stepped // setup: CREATE TABLE t (k integer, v integer) // a: BEGIN // a: INSERT INTO t VALUES (2147483647 + 1, 1) // a: SELECT * FROM t // a: COMMIT // a: SELECT x FROM t => stepped, a, table t k integer v integer, 3 session 0 begin, 4 session 0 insert 1 into 0 0 1, 5 session 0 select 2 from 0, 6 session 0 commit, 7 session 0 42703 column \"x\" does not exist
+rc 1 stepped // setup: CREATE TABLE t (k integer, v integer) // a: UPDATE t SET v = k, k = 2 WHERE k = 1 // a: UPDATE t SET v = 1 // b: DELETE FROM t WHERE v = 1 // b: DELETE FROM t => stepped, a, b, table t k integer v integer, 3 session 0 update 0 1 0 where, 4 session 0 update 0 1, 5 session 1 delete from 0 where, 6 session 1 delete from 0";
 
 /// Pairs of scripts that say the same.
 const ALIKE: &str = "rc 1 stepped // a: BEGIN //  => rc 1 stepped // a: BEGIN
@@ -385,6 +418,7 @@ rc 1 free // # \x01 \x7f é \r \" // a: BEGIN => rc 1 free // \t // a: BEGIN
 rc 1 stepped //  setup\t:create table T(K int,v bool); // a: BEGIN => rc 1 stepped // setup: CREATE TABLE t (k integer, v boolean) // a: BEGIN
 rc 1 stepped // setup: CREATE TABLE t (k integer, v integer) // a: INSERT INTO t VALUES (1, 007) => rc 1 stepped // setup: CREATE TABLE t (k integer, v integer) // a: INSERT INTO T(k,V)VALUES(1,7)
 rc 1 stepped // setup: CREATE TABLE t (k integer, v integer) // a: SELECT * FROM t AS x WHERE x.k=1 => rc 1 stepped // setup: CREATE TABLE t (k integer, v integer) // a: select\tk,t.v from t where (k) = 1;
+rc 1 stepped // setup: CREATE TABLE t (k integer) // a: UPDATE t AS x SET k = x.k + 1 // a: DELETE FROM t x WHERE x.k=1 => rc 1 stepped // setup: CREATE TABLE t (k integer) // a: update T set K=(k+1); // a: delete from t where t.k = 1
 rc 1 stepped // a: BEGIN TRANSACTION ISOLATION LEVEL READ COMMITTED // a: END => rc 1 stepped // a: BEGIN // a: COMMIT WORK";
 
 /// What a row of a table writes, and what it wants.
@@ -544,6 +578,12 @@ fn inserts_are_analysed(rt: HostRuntime) -> Result<(), AllocError> {
 #[test]
 fn selects_are_analysed(rt: HostRuntime) -> Result<(), AllocError> {
     assert_eq!(rt; first_wrong_of_session(rt.alloc(), SELECTS)?, None);
+    Ok(())
+}
+
+#[test]
+fn changes_are_analysed(rt: HostRuntime) -> Result<(), AllocError> {
+    assert_eq!(rt; first_wrong_of_session(rt.alloc(), CHANGES)?, None);
     Ok(())
 }
 

@@ -1,7 +1,7 @@
 //! How the tables of the tests write scripts, and what they write for the answers.
 use pg_model::{
-    Column, Content, Counted, Insert, Line, Mode, Script, Select, Source, SqlError, Statement,
-    TableShape,
+    Action, Assignments, Change, Column, Content, Counted, Insert, Line, Mode, Script, Select,
+    Source, SqlError, Statement, TableShape,
 };
 use pg_names::Name;
 use pg_script::{Reason, ScriptFault};
@@ -89,6 +89,7 @@ fn put_error(text: &mut Vec<u8>, error: &SqlError) -> Result<(), AllocError> {
         SqlError::ColumnTwice(name) => {
             put_named(text, "42701 column", name, "specified more than once")
         }
+        SqlError::SetTwice(name) => put_named(text, "42601 column", name, "is set more than once"),
         SqlError::RelationExists(name) => {
             put_named(text, "42P07 relation", name, "already exists")
         }
@@ -240,6 +241,37 @@ fn put_select(alloc: Global, text: &mut Vec<u8>, select: &Select) -> Result<(), 
     Ok(())
 }
 
+/// Appends the table of an UPDATE with the columns that it sets, or of a DELETE, and whether there
+/// is a condition.
+fn put_change(alloc: Global, text: &mut Vec<u8>, change: &Change) -> Result<(), AllocError> {
+    let table = change.target.table;
+    match &change.action {
+        Action::Set(assignments) => {
+            text.extend_from_slice(format!(in alloc; "update {table}")?.as_bytes())?;
+            put_columns_set(alloc, text, assignments)?;
+        }
+        Action::Delete => {
+            text.extend_from_slice(format!(in alloc; "delete from {table}")?.as_bytes())?;
+        }
+    }
+    if change.condition.is_some() {
+        text.extend_from_slice(b" where")?;
+    }
+    Ok(())
+}
+
+/// Appends the columns that a SET list names.
+fn put_columns_set(
+    alloc: Global,
+    text: &mut Vec<u8>,
+    assignments: &Assignments,
+) -> Result<(), AllocError> {
+    for assignment in assignments.as_slice() {
+        text.extend_from_slice(format!(in alloc; " {}", assignment.column)?.as_bytes())?;
+    }
+    Ok(())
+}
+
 fn put_statement(
     alloc: Global,
     text: &mut Vec<u8>,
@@ -251,6 +283,7 @@ fn put_statement(
         Statement::Rollback => text.extend_from_slice(b"rollback"),
         Statement::Select(select) => put_select(alloc, text, select),
         Statement::Insert(insert) => put_insert(alloc, text, insert),
+        Statement::Change(change) => put_change(alloc, text, change),
     }
 }
 

@@ -55,7 +55,7 @@ pub goes_on : (select : Select) (tables : List TableState) (transactions : Trans
     true ≡ is_all_read reading → candidates ≡ select_candidates select reading.seen →
     GoesOn select tables transactions machine (with_candidates machine.running candidates)
 goes_on select tables transactions machine reading candidates at selecting done are = record {
-  less = subst (λ o. 0 < quiet_steps tables o) (sym at) (omega arith);
+  less = λ most _. subst (λ o. 0 < quiet_steps most o) (sym at) (omega arith);
   selecting = tt;
   reached =
       ap (with_candidates machine.running) are

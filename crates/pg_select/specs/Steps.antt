@@ -1,6 +1,6 @@
 -- A step of a plain SELECT: it goes over its tables piece by piece, then it has its candidates, and
 -- then it is done or fails. All that is not named stays as it was.
-use Rattle.std.specs.Prelude.{ℕ, ◌≡◌, ◌+◌, ◌<◌, List, [], ◌∷◌, map, Option, None, Some, Ok, Err, IfSome, MatchOption}
+use Rattle.std.specs.Prelude.{ℕ, ◌≡◌, ◌+◌, ◌<◌, List, [], map, Option, None, Some, Ok, Err, IfSome, MatchOption}
 use Rattle.pg_xacts.specs.declared.me.Me.{Me}
 use Rattle.pg_xacts.specs.Snapshots.{SnapshotView}
 use Rattle.pg_xacts.specs.Transactions.{Transactions}
@@ -8,12 +8,13 @@ use Rattle.pg_model.specs.declared.statement.Select.{Select}
 use Rattle.pg_model.specs.declared.statement.Statement.TheVariants as statement
 use Rattle.pg_world.specs.Candidates.{candidates_of, table_of_source}
 use Rattle.pg_world.specs.declared.candidate.Candidate.{Candidate}
-use Rattle.pg_world.specs.Choices.{Choice, choices, fails}
+use Rattle.pg_world.specs.Choices.{choices}
+use Rattle.pg_world.specs.Choosing.{Choice}
 use Rattle.pg_world.specs.Evaluation.{OrError}
 use Rattle.pg_world.specs.Sessions.{first_running}
 use Rattle.pg_world.specs.declared.session.Running.{Running}
 use Rattle.pg_table.specs.States.{TableState, table_shown}
-use Rattle.pg_scans.specs.Readings.{IsReading, ReadingView, new_reading, pieces_left}
+use Rattle.pg_scans.specs.Readings.{HaveVersions, IsReading, ReadingView, new_reading, pieces_left}
 use Rattle.pg_plans.specs.declared.act.Act.{Act}
 use Rattle.pg_plans.specs.declared.act.Act.TheVariants as answer
 
@@ -57,28 +58,20 @@ select_planned select tables transactions running =
       reading = None;
     }
 
--- the quiet steps that are left at most: one for each piece, and one for the candidates
-abbrev pub quiet_steps : List TableState → Option ReadingView → ℕ
-quiet_steps tables None = 0
-quiet_steps tables (Some reading) = 1 + pieces_left tables reading
+-- the quiet steps that are left at most, where no table has more than so many versions: one for each
+-- piece, and one for the candidates
+abbrev pub quiet_steps : ℕ → Option ReadingView → ℕ
+quiet_steps most None = 0
+quiet_steps most (Some reading) = 1 + pieces_left most reading
 
 -- those of a SELECT
-abbrev pub quiet_left : List TableState → SelectView → ℕ
-quiet_left tables machine = quiet_steps tables machine.reading
+abbrev pub quiet_left : ℕ → SelectView → ℕ
+quiet_left most machine = quiet_steps most machine.reading
 
 -- what a SELECT may do next, by what the tables show
 abbrev pub select_choices_in : Select → List TableState → Transactions → Running → List Choice
 select_choices_in select tables transactions running =
     choices (statement.Select select) (map table_shown tables) transactions running
-
--- while it reads, a step is quiet; behind that it fails with the error of its candidates, or is
--- done, by the choices
-abbrev pub IsAnswer : List Choice → Option ReadingView → Act → Type 0
-IsAnswer given reading answer.Memory = Unit {0}
-IsAnswer given (Some reading) answer.Quiet = Unit {0}
-IsAnswer given None (answer.Failed error) = given ≡ fails error ∷ []
-IsAnswer given None answer.Done = given ≡ []
-IsAnswer given _ _ = ⊥
 
 -- a statement whose candidates are known is done, or fails with their error where there is memory
 -- for it
@@ -92,7 +85,7 @@ IsOutcome _ _ = ⊥
 -- candidates.
 pub record GoesOn (select : Select) (tables : List TableState) (transactions : Transactions)
     (machine next : SelectView) : Type 0 where
-  pub less : quiet_left tables next < quiet_left tables machine
+  pub less : (most : ℕ) → HaveVersions most tables → quiet_left most next < quiet_left most machine
   pub selecting : IsSelecting select tables transactions next
   pub reached : MatchOption next.reading
       (next ≡ select_planned select tables transactions machine.running)

@@ -1,23 +1,22 @@
-ghost use Rattle.std.specs.Prelude.{◌≡◌, ◌≢◌, IfOk, Ok, []};
+ghost use Rattle.std.specs.Prelude.{◌≡◌, ◌≢◌, IfOk};
 ghost use Rattle.pg_model.specs.declared.statement.Select.{Select as Statement};
 ghost use Rattle.pg_model.specs.declared.statement.Statement.TheVariants as statement;
-ghost use Rattle.pg_select.specs.Steps.{GoesOn, IsAnswer, IsOutcome, IsSelecting, new_select, select_choices_in};
-ghost use Rattle.pg_world.specs.Candidates.{select_candidates as candidates_of};
+ghost use Rattle.pg_plans.specs.Answers.{IsAnswerBehind};
+ghost use Rattle.pg_select.specs.Steps.{GoesOn, IsOutcome, IsSelecting, new_select, select_choices_in};
 ghost use Rattle.pg_world.specs.Replies.{reply_of};
-ghost use Rattle.pg_world.specs.Sessions.{first_running};
 
-use pg_lists::{Items, TryCopy};
-use pg_model::{Reply, SqlError};
-use pg_plans::{Act, PlanFault, select_candidates, select_reply, tables_of_sources};
+use pg_lists::Items;
+use pg_model::Reply;
+use pg_plans::{
+    Act, Candidates, candidates_or_error, failure, first_running, select_candidates, select_reply,
+    tables_of_sources,
+};
 use pg_scans::Reading;
 use pg_table::TableSet;
-use pg_world::{Candidate, Running, SeenRow, Stage};
+use pg_world::Running;
 use pg_xacts::{Me, Snapshot, Xacts};
 use std::alloc::{AllocError, Global};
 use std::marker::Model;
-
-/// The candidates of a statement, or their first error.
-type Candidates = Result<Items<Candidate>, SqlError>;
 
 /// A plain SELECT that has its snapshot.
 #[derive(Drop)]
@@ -50,7 +49,7 @@ impl Select {
         let commits = snapshot.commits();
         Ok(Select {
             alloc,
-            running: first_running(alloc, me, commits),
+            running: first_running(alloc, me, commits, Ok(Items::new(alloc))),
             reading: Some(Reading::new(alloc, tables, me, snapshot)),
         })
     }
@@ -60,15 +59,14 @@ impl Select {
     /// as it was.
     pub fn step(&mut self, select: &pg_model::Select, tables: &TableSet, xacts: &Xacts) -> Act
         requires { IsSelecting select.now tables.now xacts.now self.old }
-        ensures choice { IsAnswer
-            (select_choices_in select.now tables.now xacts.now self.old.running) self.old.reading
-            result }
+        ensures choice { IsAnswerBehind self.old.reading
+            (select_choices_in select.now tables.now xacts.now self.old.running) result }
         ensures quiet { result ≡ Act.Quiet →
             GoesOn select.now tables.now xacts.now self.old self.new }
         ensures stays { result ≢ Act.Quiet → self.new ≡ self.old }
     {
         let Some(reading) = &mut self.reading else {
-            return outcome(self.alloc, &self.running);
+            return outcome(self.alloc, &self.running.candidates);
         };
         if !reading.is_done() {
             return match reading.read_piece(tables, xacts) {
@@ -76,7 +74,7 @@ impl Select {
                 Err(_) => Act::Memory,
             };
         }
-        match candidates_seen(self.alloc, select, reading.seen()) {
+        match candidates_or_error(select_candidates(self.alloc, select, reading.seen())) {
             Ok(candidates) => {
                 self.running.candidates = candidates;
                 self.reading = None;
@@ -95,45 +93,12 @@ impl Select {
     }
 }
 
-/// A statement that has just taken its snapshot, without candidates.
-fn first_running(alloc: Global, me: Me, commits: u32) -> Running
-    ensures { result ≡ first_running me commits (Ok []) }
-{
-    Running {
-        me,
-        snapshot: commits,
-        candidates: Ok(Items::new(alloc)),
-        candidate: 0,
-        stage: Stage::Between,
-        acts: 0,
-        output: Items::new(alloc),
-    }
-}
-
-/// The candidates over what was seen of the sources, or their first error.
-fn candidates_seen(
-    alloc: Global,
-    select: &pg_model::Select,
-    seen: &[Items<SeenRow>],
-) -> Result<Candidates, AllocError>
-    ensures { IfOk result (λ read. read ≡ candidates_of select.now seen.now) }
-{
-    match select_candidates(alloc, select, seen) {
-        Ok(candidates) => Ok(Ok(candidates)),
-        Err(PlanFault::Error(error)) => Ok(Err(error)),
-        Err(PlanFault::Memory) => Err(AllocError),
-    }
-}
-
 /// Done, or the error of the candidates.
-fn outcome(alloc: Global, running: &Running) -> Act
-    ensures { IsOutcome running.now.candidates result }
+fn outcome(alloc: Global, candidates: &Candidates) -> Act
+    ensures { IsOutcome candidates.now result }
 {
-    match &running.candidates {
+    match candidates {
         Ok(_) => Act::Done,
-        Err(error) => match error.try_copy(alloc) {
-            Ok(error) => Act::Failed(error),
-            Err(_) => Act::Memory,
-        },
+        Err(error) => failure(alloc, error),
     }
 }

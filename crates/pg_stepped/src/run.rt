@@ -1,8 +1,9 @@
-ghost use Rattle.std.specs.Prelude.{◌≡◌, ◌<◌, ℕ, Err, false, IfOk, length, OnOk};
+ghost use Rattle.std.specs.Prelude.{◌≡◌, ◌<◌, ℕ, Err, false, IfOk, None, length, OnOk};
 ghost use Rattle.pg_board.specs.Board.{HasMoved, MovedBy, first_board, has_ended, waits_for_lines};
 ghost use Rattle.pg_board.specs.declared.fault.BoardFault.TheVariants.{Setup};
 ghost use Rattle.pg_model.specs.declared.error.SqlError.{SqlError};
 ghost use Rattle.pg_model.specs.declared.script.Mode.TheVariants.{Stepped};
+ghost use Rattle.pg_waits.specs.Slots.{waits_for};
 ghost use Rattle.pg_stepped.specs.Runs.{IsRun};
 ghost use Rattle.pg_stepped.specs.Setups.{Raises, RaisesNone};
 
@@ -52,6 +53,7 @@ fn move_next(board: &mut Board<'_>, session: u32) -> Result<(), AllocError>
     requires within { session < length board.old.script.sessions }
     requires served { waits_for_lines board.old session ≡ false }
     requires unended { has_ended board.old session ≡ false }
+    requires free { waits_for board.old.world.waits session ≡ None }
     ensures { OnOk result (HasMoved session board.old board.new) }
 {
     let before = board.journal().len();
@@ -68,11 +70,13 @@ fn step_once(board: &mut Board<'_>, session: u32) -> Result<(), AllocError>
     requires within { session < length board.old.script.sessions }
     requires served { waits_for_lines board.old session ≡ false }
     requires unended { has_ended board.old session ≡ false }
+    requires free { waits_for board.old.world.waits session ≡ None }
     ensures { OnOk result (MovedBy session board.old board.new) }
 {
     match board.step(session) {
         Step::Moved => Ok(()),
         Step::Memory => Err(AllocError),
         Step::Idle | Step::Closed => unreachable!(),
+        Step::Waiting(_) => unreachable!(),
     }
 }

@@ -6,6 +6,7 @@ use Rattle.std.proofs.lemmas.Option.{slice_get_past}
 use Rattle.pg_values.specs.declared.value.Value.{Value}
 use Rattle.pg_xacts.specs.declared.me.Me.{Me}
 use Rattle.pg_heap.specs.Rows.{row_drawn, row_stored}
+use Rattle.pg_locks.specs.Locks.{locks_of_row_added}
 use Rattle.pg_rows.proofs.Rows.{length_rows}
 use Rattle.pg_world.specs.declared.placed.PlacedRow.{PlacedRow}
 use Rattle.pg_world.specs.Tables.{next_row, placed_at, placed_beside, placed_stored, row_added, row_inserted, row_placed, version_by}
@@ -63,4 +64,5 @@ module _ (state : TableState) (me : Me) (values : List Value) (table : IsTable s
       ∙ (inserted_shown (row_placed_in state me values) me (table_placed state me values table) one.row own
       ∙ (ap (λ t. row_inserted t me one.row) (placed_shown state me values table)
       ∙ (ap (placed_stored (row_placed (table_shown state) me values) me one.row) there
-      ∙ ap (view_of (row_stored (row_drawn (table_shown state).rows) one.row (version_by me values))) (beside_last (table_shown state).placed one free))))
+      ∙ ap (λ placed. view_of (row_stored (row_drawn (table_shown state).rows) one.row (version_by me values)) placed (locks_of_row_added state.locks))
+      (beside_last (table_shown state).placed one free))))

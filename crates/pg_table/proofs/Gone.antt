@@ -5,14 +5,17 @@ use Rattle.std.specs.List.{cons_option}
 use Rattle.pg_heap.specs.Rows.{is_written_by}
 use Rattle.pg_heap.specs.declared.slot.State.{State}
 use Rattle.pg_heap.specs.declared.slot.State.TheVariants.{Dead, Placed, Settled}
+use Rattle.pg_locks.specs.Locks.{locks_ended}
 use Rattle.pg_rows.specs.Stores.{Stored, ended_version, stored_of, undone_version}
 use Rattle.pg_rows.proofs.Rows.{rows_ended, rows_undone}
 use Rattle.pg_world.specs.declared.placed.PlacedRow.{PlacedRow}
 use Rattle.pg_world.specs.Tables.{commit, placed_by_others, rollback, table_after_end}
+use Rattle.pg_table.specs.declared.placing.DraftKind.{DraftKind}
+use Rattle.pg_table.specs.declared.placing.DraftKind.TheVariants.{First, Next}
 use Rattle.pg_table.specs.declared.placing.Placing.{Placing}
-use Rattle.pg_table.specs.States.{TableState, placed_from, placed_under, state_ended, state_undone, table_shown, waiting_row}
+use Rattle.pg_table.specs.States.{TableState, draft_under, of_kind, placed_from, placed_under, state_ended, state_undone, table_shown, waiting_row}
 use Rattle.pg_table.proofs.Kept.{nth_map}
-use Rattle.pg_table.proofs.Shown.{under, view_of}
+use Rattle.pg_table.proofs.Shown.{draft_is, view_of}
 
 -- what a transaction has placed no longer waits
 module _ (change : Stored → Stored) (xact : ℕ)
@@ -23,19 +26,19 @@ module _ (change : Stored → Stored) (xact : ℕ)
   placed_gone first [] versions = refl
   placed_gone first (p ∷ ps) versions =
       ap₂ (λ o xs. cons_option o xs)
-      (ap (λ o. option_and_then (waiting_row first p) o) (nth_map change versions p.version))
+      (ap (λ o. of_kind First p.kind (option_and_then (waiting_row first p) o)) (nth_map change versions p.version))
       (placed_gone (first + 1) ps versions)
-      ∙ at (stored_of versions p.version) refl
+      ∙ by_kind p.kind refl
     where
       rest : List PlacedRow
       rest = placed_by_others (placed_from (first + 1) ps versions) xact
 
       by_writer : (stored : Stored) → stored_of versions p.version ≡ Some stored → (b : Bool) → is_written_by xact stored.version ≡ b → (o : Option PlacedRow) →
-          placed_under versions first p ≡ o → cons_option (cond b None o) rest ≡ placed_by_others (cons_option o (placed_from (first + 1) ps versions)) xact
+          draft_under versions first p ≡ o → cons_option (cond b None o) rest ≡ placed_by_others (cons_option o (placed_from (first + 1) ps versions)) xact
       by_writer stored is true by None there = refl
       by_writer stored is false by None there = refl
       by_writer stored is b by (Some x) there =
-          let u = under versions first p x there in
+          let u = draft_is versions first p x there in
           let same : u.stored ≡ stored = cc (u.is, is) in
           let written : (x.me.xact == xact) ≡ b = ap (λ n. nat_eq n xact) (u.writer ∙ ap (λ s. s.version.writer) same) ∙ by in
           rw written (by_case b)
@@ -53,7 +56,13 @@ module _ (change : Stored → Stored) (xact : ℕ)
           ∙ by_writer stored is (is_written_by xact stored.version) refl (waiting_row first p stored)
           (ap (λ o. option_and_then (waiting_row first p) o) is)
 
-undone_waits : (xact row : ℕ) (placing : Placing) (stored : Stored) →
+      by_kind : (kind : DraftKind) → p.kind ≡ kind →
+          cons_option (of_kind First p.kind (option_and_then (waiting_row first p) (option_map change (stored_of versions p.version)))) rest
+          ≡ placed_by_others (cons_option (placed_under versions first p) (placed_from (first + 1) ps versions)) xact
+      by_kind First is = rw is (at (stored_of versions p.version) refl)
+      by_kind Next is = rw is refl
+
+pub undone_waits : (xact row : ℕ) (placing : Placing) (stored : Stored) →
     waiting_row row placing (undone_version xact stored) ≡ cond (is_written_by xact stored.version) None (waiting_row row placing stored)
 undone_waits xact row placing stored = at (is_written_by xact stored.version) refl
   where
@@ -61,7 +70,7 @@ undone_waits xact row placing stored = at (is_written_by xact stored.version) re
     at true by = rw by refl
     at false by = rw by refl
 
-ended_waits : (xact row : ℕ) (placing : Placing) (stored : Stored) →
+pub ended_waits : (xact row : ℕ) (placing : Placing) (stored : Stored) →
     waiting_row row placing (ended_version xact stored) ≡ cond (is_written_by xact stored.version) None (waiting_row row placing stored)
 ended_waits xact row placing stored = at (is_written_by xact stored.version) stored.state refl refl
   where
@@ -74,8 +83,8 @@ ended_waits xact row placing stored = at (is_written_by xact stored.version) sto
 
 pub undone_shown : (state : TableState) (xact : ℕ) → table_shown (state_undone xact state) ≡ table_after_end xact rollback (table_shown state)
 undone_shown state xact =
-    ap₂ view_of (rows_undone state.store xact) (placed_gone (undone_version xact) xact (undone_waits xact) 1 state.placings state.store.versions)
+    ap₂ (λ rows placed. view_of rows placed (locks_ended xact state.locks)) (rows_undone state.store xact) (placed_gone (undone_version xact) xact (undone_waits xact) 1 state.placings state.store.versions)
 
 pub ended_shown : (state : TableState) (xact : ℕ) → table_shown (state_ended xact state) ≡ table_after_end xact commit (table_shown state)
 ended_shown state xact =
-    ap₂ view_of (rows_ended state.store xact) (placed_gone (ended_version xact) xact (ended_waits xact) 1 state.placings state.store.versions)
+    ap₂ (λ rows placed. view_of rows placed (locks_ended xact state.locks)) (rows_ended state.store xact) (placed_gone (ended_version xact) xact (ended_waits xact) 1 state.placings state.store.versions)

@@ -1,9 +1,16 @@
 pub mod Lists
 pub mod Placed
+pub mod Waiting
 pub mod Kept
+pub mod Drafted
 pub mod Shown
 pub mod Added
+pub mod Changed
 pub mod Gone
+pub mod Staged
+pub mod Order
+pub mod Holding
+pub mod Versions
 pub mod Scanned
 pub mod Read
 pub mod Steady

@@ -1,3 +1,4 @@
 pub mod States
+pub mod Holds
 pub mod Lending
 pub mod Scanned

@@ -5,7 +5,7 @@ use Rattle.pg_xacts.specs.Transactions.{Transactions, is_among_commits}
 use Rattle.pg_world.specs.declared.candidate.SeenRow.{SeenRow}
 use Rattle.pg_world.specs.declared.placed.PlacedRow.{PlacedRow}
 use Rattle.pg_world.specs.Tables.{placed_at}
-use Rattle.pg_table.specs.States.{TableState, table_shown}
+use Rattle.pg_table.specs.States.{TableState, staged_at, table_shown}
 use Rattle.pg_rows.specs.declared.scan.SeenVersion.{SeenVersion}
 use Rattle.pg_rows.specs.Scans.{numbers_from}
 
@@ -33,6 +33,12 @@ abbrev pub IsPlacedUnseen : Transactions → ℕ → Me → TableState → ℕ �
 IsPlacedUnseen transactions commits me state row =
     (placed : PlacedRow) → placed_at (table_shown state).placed row ≡ Some placed →
     IsUnseen transactions commits me placed.me.xact
+
+-- what is staged for a row, if anything is, is of a transaction that the statement does not see
+abbrev pub IsStagedUnseen : Transactions → ℕ → Me → TableState → ℕ → Type 0
+IsStagedUnseen transactions commits me state row =
+    (staged : PlacedRow) → staged_at state row ≡ Some staged →
+    IsUnseen transactions commits me staged.me.xact
 
 -- the same transactions are among so many commits
 abbrev pub KeepCommits : ℕ → Transactions → Transactions → Type 0

@@ -1,7 +1,7 @@
-ghost use Rattle.std.specs.Prelude.{◌≡◌, ◌<◌, IfOk, Some, length, map};
+ghost use Rattle.std.specs.Prelude.{◌≡◌, ◌<◌, IfOk, Some, length, map, ℕ};
 ghost use Rattle.std.specs.Option.{option_copied, option_copied_mut};
 ghost use Rattle.pg_lists.specs.Numbered.{item_at};
-ghost use Rattle.pg_table.specs.States.{empty_state, state_ended, state_undone};
+ghost use Rattle.pg_table.specs.States.{OwnStandBehind, TableState as StateOfTable, empty_state, state_ended, state_undone, table_shown};
 
 use crate::Table;
 use pg_model::Catalogue;
@@ -78,15 +78,17 @@ impl TableSet {
     }
 
     /// A transaction is rolled back in every table. This takes no memory, and costs what the
-    /// transaction wrote, and a look at each table.
+    /// transaction wrote and locked, and a look at each table.
     pub fn undo_all(&mut self, xact: u32)
+        requires { (number : ℕ) (state : StateOfTable) → item_at self.old number ≡ Some state →
+            OwnStandBehind xact (table_shown state) }
         ensures { self.new ≡ map (state_undone xact) self.old }
     {
         undo_each(&mut self.tables, xact);
     }
 
     /// A transaction has committed, in every table. This takes no memory, and costs what the
-    /// transaction wrote, and a look at each table.
+    /// transaction wrote and locked, and a look at each table.
     pub fn ended_all(&mut self, xact: u32)
         ensures { self.new ≡ map (state_ended xact) self.old }
     {
@@ -97,6 +99,8 @@ impl TableSet {
 /// A transaction is rolled back in each of the tables.
 #[tactic(auto, using(crate::proofs::Lists::each_changed))]
 fn undo_each(tables: &mut [Table], xact: u32)
+    requires { (number : ℕ) (state : StateOfTable) → item_at tables.old number ≡ Some state →
+        OwnStandBehind xact (table_shown state) }
     ensures { tables.new ≡ map (state_undone xact) tables.old }
 {
     for table in tables.iter_mut() {

@@ -3,11 +3,12 @@ ghost use Rattle.pg_heap.specs.Pieces.{piece_from};
 ghost use Rattle.pg_heap.specs.Rows.{values_of};
 ghost use Rattle.pg_rows.specs.Scans.{seen_in_piece};
 ghost use Rattle.pg_rows.specs.Stores.{HasValues, current_number, newest_number, version_of};
-ghost use Rattle.pg_table.specs.States.{IsTable, empty_state, row_added_in, row_inserted_in, row_placed_in, state_ended, state_undone, waiting_number};
+ghost use Rattle.pg_table.specs.States.{IsTable, OwnStandBehind, draft_number, empty_state, row_added_in, row_inserted_in, row_placed_in, state_ended, state_undone, table_shown};
 ghost use Rattle.pg_xacts.specs.Snapshots.{WasTakenOf};
 
-use crate::Placing;
+use crate::{DraftKind, Placing};
 use pg_heap::State;
+use pg_locks::Locks;
 use pg_rows::{RowStore, Scan};
 use pg_values::Values;
 use pg_xacts::{Me, Snapshot, Xacts};
@@ -18,8 +19,10 @@ use std::marker::Model;
 #[derive(Drop)]
 pub struct Table {
     pub(crate) rows: RowStore,
-    /// For each row number who drew it, and its first version.
-    placings: Vec<Placing>,
+    /// For each row number the last draft with values that was made for it.
+    pub(crate) placings: Vec<Placing>,
+    /// The locks on each row.
+    pub(crate) locks: Locks,
 }
 
 impl Model for Table {
@@ -27,9 +30,11 @@ impl Model for Table {
 
     ghost Value = { TableState };
 
-    ghost view = { λ t. record { store = t.rows; placings = t.placings.items } };
+    ghost view = { λ t.
+        record { store = t.rows; placings = t.placings.items; locks = t.locks } };
 
-    ghost invariant = { λ t. IsTable (record { store = t.rows; placings = t.placings.items }) };
+    ghost invariant = { λ t.
+        IsTable (record { store = t.rows; placings = t.placings.items; locks = t.locks }) };
 }
 
 impl Table {
@@ -40,6 +45,7 @@ impl Table {
         Table {
             rows: RowStore::new(alloc),
             placings: Vec::new(alloc),
+            locks: Locks::new(alloc),
         }
     }
 
@@ -66,21 +72,30 @@ impl Table {
         ensures kept { IsTable self.old }
     {
         self.placings.reserve(1)?;
-        let (row, version) = self.rows.draw(&me, values)?;
-        self.placings.push_reserved(Placing {
-            session: me.session,
-            version,
-        });
-        Ok(row)
+        self.locks.add_row()?;
+        match self.rows.draw(&me, values) {
+            Ok((row, version)) => {
+                self.placings.push_reserved(Placing {
+                    session: me.session,
+                    version,
+                    kind: DraftKind::First,
+                });
+                Ok(row)
+            }
+            Err(refusal) => {
+                self.locks.remove_last_row();
+                Err(refusal)
+            }
+        }
     }
 
-    /// What waits under a row number, if anything does, becomes the row's first version. This takes
-    /// no memory.
+    /// What is placed under a row number, if anything is, becomes the row's first version. This
+    /// takes no memory.
     pub fn settle(&mut self, row: u64)
         ensures settled { self.new ≡ row_inserted_in self.old row }
         ensures kept { IsTable self.old }
     {
-        if let Some(version) = self.waiting(row) {
+        if let Some(version) = self.waiting(DraftKind::First, row) {
             self.rows.attach(version);
         }
     }
@@ -97,22 +112,25 @@ impl Table {
         Ok(())
     }
 
-    /// A transaction is rolled back: its versions are taken away, and what it placed is given up.
-    /// This takes no memory, and costs what the transaction wrote.
+    /// A transaction is rolled back: its versions are taken away, what it placed or staged is given
+    /// up, and its locks end. This takes no memory, and costs what the transaction wrote and locked.
     pub fn undo(&mut self, xact: u32)
+        requires { OwnStandBehind xact (table_shown self.old) }
         ensures undone { self.new ≡ state_undone xact self.old }
         ensures kept { IsTable self.old }
     {
         self.rows.undo(xact);
+        self.locks.end(xact);
     }
 
-    /// A transaction has committed: what it placed and did not store is given up. This takes no
-    /// memory, and costs what the transaction wrote.
+    /// A transaction has committed: what it placed or staged and did not store is given up, and its
+    /// locks end. This takes no memory, and costs what the transaction wrote and locked.
     pub fn ended(&mut self, xact: u32)
         ensures ended { self.new ≡ state_ended xact self.old }
         ensures kept { IsTable self.old }
     {
         self.rows.ended(xact);
+        self.locks.end(xact);
     }
 
     /// The number of the newest version of a row, or `None` where no version is left.
@@ -165,12 +183,15 @@ impl Table {
         self.rows.visible(alloc, xacts, snapshot, me, from)
     }
 
-    /// The version number of what waits under a row number, if anything does.
-    fn waiting(&self, row: u64) -> Option<u64>
-        ensures { result ≡ waiting_number self.now row }
+    /// The version number of the draft of a kind that waits under a row number, if one does.
+    pub(crate) fn waiting(&self, kind: DraftKind, row: u64) -> Option<u64>
+        ensures { result ≡ draft_number kind self.now row }
     {
         let before = row.checked_sub(1)?;
         let placing = self.placings.get(before as usize)?;
+        if placing.kind != kind {
+            return None;
+        }
         match self.rows.state(placing.version) {
             Some(State::Placed) => Some(placing.version),
             Some(State::Settled) | Some(State::Dead) | None => None,

@@ -52,6 +52,27 @@ pub fn status(xacts: &Xacts, xact: u32) -> Option<XStatus>
     Some(xacts.status(xact))
 }
 
+/// Whether a transaction runs.
+pub fn runs(xacts: &Xacts, xact: u32) -> bool {
+    status(xacts, xact) == Some(XStatus::Running)
+}
+
+/// Whether a transaction has committed.
+pub fn has_committed(xacts: &Xacts, xact: u32) -> bool {
+    matches!(status(xacts, xact), Some(XStatus::Committed(_)))
+}
+
+/// The number after another in a row of numbers that look random.
+pub fn next_number(seed: u64) -> u64 {
+    seed.wrapping_mul(6_364_136_223_846_793_005)
+        .wrapping_add(1_442_695_040_888_963_407)
+}
+
+/// A number from 1 up to the last.
+pub fn up_to(seed: u64, last: u64) -> u64 {
+    ((seed >> 33) % last.max(1)).saturating_add(1)
+}
+
 /// Begins a transaction of the session 0.
 pub fn begin(xacts: &mut Xacts) -> Result<(), AllocError> {
     if xacts.count() < u32::MAX {

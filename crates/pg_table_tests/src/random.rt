@@ -3,9 +3,12 @@
 //! What is placed draws one row number and one version number, so the two are the same here, and
 //! the place of each in the plain list is the number before it.
 
-use crate::helpers::{begin, commit, current, me, newest, roll_back, seen, status, values};
-use pg_table::Table;
-use pg_xacts::{Me, XStatus, Xacts};
+use crate::helpers::{
+    begin, commit, current, has_committed, me, newest, next_number, roll_back, runs, seen, up_to,
+    values,
+};
+use crate::inserts::Inserts;
+use pg_xacts::{Me, Xacts};
 use std::alloc::{AllocError, Global};
 
 /// What has become of a version.
@@ -30,34 +33,13 @@ struct Plain {
 struct Pair {
     alloc: Global,
     xacts: Xacts,
-    table: Table,
+    table: Inserts,
     plain: Vec<Plain>,
-}
-
-/// The number after another in a row of numbers that look random.
-fn next_number(seed: u64) -> u64 {
-    seed.wrapping_mul(6_364_136_223_846_793_005)
-        .wrapping_add(1_442_695_040_888_963_407)
-}
-
-/// A number from 1 up to the last.
-fn up_to(seed: u64, last: u64) -> u64 {
-    ((seed >> 33) % last.max(1)).saturating_add(1)
 }
 
 /// The number of a transaction that was begun, if any was.
 fn any_xact(xacts: &Xacts, seed: u64) -> u32 {
     u32::try_from(up_to(seed, u64::from(xacts.count()))).unwrap_or(u32::MAX)
-}
-
-/// Whether a transaction runs.
-fn runs(xacts: &Xacts, xact: u32) -> bool {
-    status(xacts, xact) == Some(XStatus::Running)
-}
-
-/// Whether a transaction has committed.
-fn has_committed(xacts: &Xacts, xact: u32) -> bool {
-    matches!(status(xacts, xact), Some(XStatus::Committed(_)))
 }
 
 /// Whether a statement sees a version of the plain list.
@@ -75,7 +57,7 @@ fn is_current(xacts: &Xacts, me: Me, version: Plain) -> bool {
 /// A step that a random number names, of a command with its own number.
 fn step(pair: &mut Pair, seed: u64, command: u32) -> Result<(), AllocError> {
     let xact = any_xact(&pair.xacts, next_number(seed));
-    let row = up_to(next_number(seed), pair.table.rows_drawn());
+    let row = up_to(next_number(seed), pair.table.table().rows_drawn());
     match up_to(seed, 12) {
         1 | 2 => begin(&mut pair.xacts),
         3..=5 => place(pair, me(xact, command)),
@@ -182,9 +164,9 @@ fn plain_seen(pair: &Pair, me: Me) -> Result<Vec<(u64, i32)>, AllocError> {
 
 /// Whether the newest and the current version of a row are those of the plain list.
 fn is_right(pair: &Pair, me: Me, row: u64, version: Plain) -> bool {
-    let newest_is = newest(&pair.table, row) == Some(row);
-    let current_is = current(&pair.table, &pair.xacts, &me, row) == Some(row);
-    let none = newest(&pair.table, row).is_none();
+    let newest_is = newest(pair.table.table(), row) == Some(row);
+    let current_is = current(pair.table.table(), &pair.xacts, &me, row) == Some(row);
+    let none = newest(pair.table.table(), row).is_none();
     let right = if version.fate == Fate::Stands {
         newest_is
     } else {
@@ -207,13 +189,13 @@ fn are_right(pair: &Pair, me: Me) -> bool {
 
 /// In what the two differ for a statement, if they do.
 fn difference(pair: &Pair, me: Me) -> Result<Option<&'static str>, AllocError> {
-    if pair.table.versions_drawn() != pair.plain.len() as u64 {
+    if pair.table.table().versions_drawn() != pair.plain.len() as u64 {
         return Ok(Some("the count of versions"));
     }
     if !are_right(pair, me) {
         return Ok(Some("the newest or the current version"));
     }
-    let seen = seen(pair.alloc, &pair.table, &pair.xacts, me)?;
+    let seen = seen(pair.alloc, pair.table.table(), &pair.xacts, me)?;
     if seen.as_slice() != plain_seen(pair, me)?.as_slice() {
         return Ok(Some("the rows seen"));
     }
@@ -230,7 +212,7 @@ pub fn first_wrong_step(
     let mut pair = Pair {
         alloc,
         xacts: Xacts::new(alloc),
-        table: Table::new(alloc),
+        table: Inserts::new(alloc),
         plain: Vec::new(alloc),
     };
     let mut seed = next_number(round);

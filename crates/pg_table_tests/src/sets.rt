@@ -1,10 +1,10 @@
 //! A transaction ends in every table of a set.
 use crate::helpers::{commit, committed, me, two, values};
+use crate::inserts::InsertSet;
 use pg_lists::Items;
 use pg_model::{Catalogue, TableShape};
 use pg_names::{Name, NamedItems};
 use pg_shared::Shared;
-use pg_table::TableSet;
 use std::alloc::{AllocError, Global};
 
 /// A catalogue of one table.
@@ -20,16 +20,12 @@ fn catalogue(alloc: Global) -> Result<Catalogue, AllocError> {
 
 /// A set of one table: in it one transaction has a row, and another has two, of which the second
 /// was placed first.
-fn written(alloc: Global) -> Result<TableSet, AllocError> {
-    let mut tables = TableSet::new(alloc, &catalogue(alloc)?)?;
-    if let Some(table) = tables.get_mut(0) {
-        table.add(me(1, 1), values(alloc, 10)?)?;
-        table.add(me(2, 1), values(alloc, 20)?)?;
-        table.place(me(2, 1), values(alloc, 30)?)?;
-    }
-    if let Some(table) = tables.get_mut(0) {
-        table.settle(3);
-    }
+fn written(alloc: Global) -> Result<InsertSet, AllocError> {
+    let mut tables = InsertSet::new(alloc, &catalogue(alloc)?)?;
+    tables.add(0, me(1, 1), values(alloc, 10)?)?;
+    tables.add(0, me(2, 1), values(alloc, 20)?)?;
+    tables.place(0, me(2, 1), values(alloc, 30)?)?;
+    tables.settle(0, 3);
     Ok(tables)
 }
 
@@ -42,7 +38,7 @@ fn values_left(alloc: Global) -> Result<Vec<i32>, AllocError> {
     commit(&mut xacts, 2);
     tables.ended_all(2);
     let mut left = Vec::new(alloc);
-    for table in tables.as_slice() {
+    for table in tables.tables().as_slice() {
         left.append(&mut committed(alloc, table, &xacts)?)?;
     }
     Ok(left)
@@ -57,7 +53,8 @@ fn a_transaction_ends_in_every_table(rt: HostRuntime) -> Result<(), AllocError> 
 
 #[test]
 fn a_set_has_a_table_for_each_of_its_catalogue(rt: HostRuntime) -> Result<(), AllocError> {
-    let tables = written(rt.alloc())?;
+    let written = written(rt.alloc())?;
+    let tables = written.tables();
     assert_eq!(rt;
         (
             tables.len(),

@@ -1,7 +1,9 @@
-//! Calls on a table, with what they answer, worked out by hand.
-use crate::helpers::{commit, committed, current, me, newest, seen, two, values};
+//! Calls on a table into which rows are only inserted, with what they answer, worked out by hand.
+use crate::changes::first_wrong_change;
+use crate::helpers::{commit, current, me, newest, two, values};
+use crate::inserts::Inserts;
 use crate::random::first_wrong_step;
-use pg_table::Table;
+use crate::texts::{cut, first, put, put_committed, put_found, put_seen};
 use pg_xacts::{Me, Xacts};
 use std::alloc::{AllocError, Global};
 
@@ -50,7 +52,7 @@ committed -> 10";
 struct Case {
     alloc: Global,
     xacts: Xacts,
-    table: Table,
+    table: Inserts,
 }
 
 /// An empty table, while two transactions run.
@@ -58,52 +60,8 @@ fn new_case(alloc: Global) -> Result<Case, AllocError> {
     Ok(Case {
         alloc,
         xacts: two(alloc)?,
-        table: Table::new(alloc),
+        table: Inserts::new(alloc),
     })
-}
-
-/// What stands before a sign, and what stands behind it.
-fn cut<'a>(text: &'a str, sign: &str) -> (&'a str, &'a str) {
-    text.split_once(sign).unwrap_or((text, ""))
-}
-
-/// The first of some numbers, 0 where there is none, and those behind it.
-fn first(numbers: &str) -> (u32, &str) {
-    let (number, others) = cut(numbers, " ");
-    (number.parse::<u32>().unwrap_or(0), others)
-}
-
-/// Appends a number that is answered.
-fn put(text: &mut String, alloc: Global, number: u64) -> Result<(), AllocError> {
-    text.push_str(format!(in alloc; " -> {number}")?.as_str())
-}
-
-/// Appends a number that may be none.
-fn put_found(text: &mut String, alloc: Global, found: Option<u64>) -> Result<(), AllocError> {
-    match found {
-        Some(number) => put(text, alloc, number),
-        None => text.push_str(" -> none"),
-    }
-}
-
-/// Appends the row numbers and the values that a statement sees.
-fn put_seen(text: &mut String, case: &Case, me: Me) -> Result<(), AllocError> {
-    let rows = seen(case.alloc, &case.table, &case.xacts, me)?;
-    text.push_str(" ->")?;
-    for (row, value) in rows.iter() {
-        text.push_str(format!(in case.alloc; " {row}:{value}")?.as_str())?;
-    }
-    Ok(())
-}
-
-/// Appends the values of the committed rows.
-fn put_committed(text: &mut String, case: &Case) -> Result<(), AllocError> {
-    let values = committed(case.alloc, &case.table, &case.xacts)?;
-    text.push_str(" ->")?;
-    for value in values.iter() {
-        text.push_str(format!(in case.alloc; " {value}")?.as_str())?;
-    }
-    Ok(())
 }
 
 /// Lets a value wait, and appends the row number that it waits under.
@@ -118,6 +76,16 @@ fn end(case: &mut Case, xact: u32) {
     case.table.ended(xact);
 }
 
+/// Appends the row numbers and the values that a statement sees.
+fn put_rows(text: &mut String, case: &Case, me: Me) -> Result<(), AllocError> {
+    put_seen(text, case.alloc, case.table.table(), &case.xacts, me)
+}
+
+/// Appends the values of the committed rows.
+fn put_values(text: &mut String, case: &Case) -> Result<(), AllocError> {
+    put_committed(text, case.alloc, case.table.table(), &case.xacts)
+}
+
 /// Makes a call, and appends what it answers, if it does; an unknown one ends the test.
 fn put_answer(text: &mut String, case: &mut Case, call: &str) -> Result<(), AllocError> {
     let (name, numbers) = cut(call, " ");
@@ -130,10 +98,10 @@ fn put_answer(text: &mut String, case: &mut Case, call: &str) -> Result<(), Allo
         "settle" => case.table.settle(u64::from(one)),
         "undo" => case.table.undo(one),
         "commit" => end(case, one),
-        "seen" => put_seen(text, case, me(one, other))?,
-        "committed" => put_committed(text, case)?,
-        "drawn" => put(text, case.alloc, case.table.rows_drawn())?,
-        "newest" => put_found(text, case.alloc, newest(&case.table, u64::from(one)))?,
+        "seen" => put_rows(text, case, me(one, other))?,
+        "committed" => put_values(text, case)?,
+        "drawn" => put(text, case.alloc, case.table.table().rows_drawn())?,
+        "newest" => put_found(text, case.alloc, newest(case.table.table(), u64::from(one)))?,
         "current" => put_current(text, case, one, u64::from(other))?,
         _ => return Err(AllocError),
     }
@@ -142,7 +110,7 @@ fn put_answer(text: &mut String, case: &mut Case, call: &str) -> Result<(), Allo
 
 /// Appends the current version of a row for a transaction.
 fn put_current(text: &mut String, case: &Case, xact: u32, row: u64) -> Result<(), AllocError> {
-    let found = current(&case.table, &case.xacts, &me(xact, 1), row);
+    let found = current(case.table.table(), &case.xacts, &me(xact, 1), row);
     put_found(text, case.alloc, found)
 }
 
@@ -181,6 +149,15 @@ fn random_steps_agree_with_a_plain_list(rt: HostRuntime) -> Result<(), AllocErro
     let alloc = rt.alloc();
     for round in 1..=4 {
         assert_eq!(rt; first_wrong_step(alloc, round, 600)?, None);
+    }
+    Ok(())
+}
+
+#[test]
+fn random_changes_agree_with_plain_lists(rt: HostRuntime) -> Result<(), AllocError> {
+    let alloc = rt.alloc();
+    for round in 1..=3 {
+        assert_eq!(rt; first_wrong_change(alloc, round, 400)?, None);
     }
     Ok(())
 }

@@ -12,6 +12,7 @@ use Rattle.pg_heap.specs.Seen.{seen, seen_values}
 use Rattle.pg_exprs.specs.Environment.{Environment}
 use Rattle.pg_exprs.specs.Tree.{Tree}
 use Rattle.pg_model.specs.declared.catalogue.Column.{Column}
+use Rattle.pg_model.specs.declared.statement.Change.{Change}
 use Rattle.pg_model.specs.declared.statement.Insert.{Insert}
 use Rattle.pg_model.specs.declared.statement.Select.{Select}
 use Rattle.pg_model.specs.declared.statement.Source.{Source}
@@ -49,6 +50,8 @@ table_of_source (source_of.Table named) = named.table
 abbrev pub tables_read : Statement → List ℕ
 tables_read (statement.Select select) = map table_of_source select.sources
 tables_read (statement.Insert insert) = []
+tables_read (statement.Change change) =
+    change.target.table ∷ map table_of_source change.sources
 tables_read statement.Begin = []
 tables_read statement.Commit = []
 tables_read statement.Rollback = []
@@ -69,13 +72,17 @@ seen_by given tables transactions commits me =
 abbrev pub no_sources : Environment
 no_sources = record { rows = []; action = None }
 
--- the value of an expression for the column of that number, fitted to its kind
-abbrev pub value_for : List Column → ℕ → Tree → OrError Value
-value_for columns number tree =
+-- a value for the column of that number, fitted to its kind
+abbrev pub fitted_for : List Column → ℕ → OrError Value → OrError Value
+fitted_for columns number result =
     if_valued
     (λ value.
     option_map_or (λ kind. fitted_value kind value) (column_kind columns number) (Ok value))
-    (value_of tree no_sources)
+    result
+
+-- the value of an expression for the column of that number, fitted to its kind
+abbrev pub value_for : List Column → ℕ → Tree → OrError Value
+value_for columns number tree = fitted_for columns number (value_of tree no_sources)
 
 -- the values that a row lists, in the order written, each with the number of its column
 abbrev pub listed_values : List Column → List ℕ → List Tree → List (OrError (ℕ × Value))
@@ -163,12 +170,25 @@ select_candidates select sources =
     if_valued (λ passed. all_values (map (selected_candidate select.items) passed))
     (passing_combinations select.condition (combinations sources))
 
+-- the candidates of an UPDATE or DELETE
+
+-- a candidate of which nothing is made before its row is locked
+abbrev pub unmade_candidate : List SeenRow → Candidate
+unmade_candidate partners = record { partners = partners; made = [] }
+
+-- each choice of a row of the target and of the sources, of which the WHERE is true
+abbrev pub change_candidates : Change → List (List SeenRow) → OrError (List Candidate)
+change_candidates change sources =
+    with_value (map unmade_candidate)
+    (passing_combinations change.condition (combinations sources))
+
 -- the candidates of each form of statement
 
 -- the candidates over what is seen of the tables read; BEGIN, COMMIT and ROLLBACK have none
 unfoldable pub candidates_over : Statement → List (List SeenRow) → OrError (List Candidate)
 candidates_over (statement.Select select) seen = select_candidates select seen
 candidates_over (statement.Insert insert) seen = insert_candidates insert
+candidates_over (statement.Change change) seen = change_candidates change seen
 candidates_over statement.Begin seen = Ok []
 candidates_over statement.Commit seen = Ok []
 candidates_over statement.Rollback seen = Ok []

@@ -1,29 +1,19 @@
 -- What an open statement may do next: its choices, of which an empty list says that it is done.
-use Rattle.std.specs.Prelude.{ℕ, ◌+◌, if◌then◌else◌, nat_lt, List, [], ◌∷◌, length, Option, None, Some, Ok, Err}
+use Rattle.std.specs.Prelude.{ℕ, List, [], ◌∷◌, length, Option, None, Some, Ok, Err}
 use Rattle.pg_lists.specs.Numbered.{item_at}
 use Rattle.pg_xacts.specs.Transactions.{Transactions}
-use Rattle.pg_model.specs.declared.error.SqlError.{SqlError}
-use Rattle.pg_model.specs.declared.journal.EntryAct.{EntryAct}
 use Rattle.pg_model.specs.declared.journal.EntryAct.TheVariants as entry
 use Rattle.pg_model.specs.declared.statement.Statement.{Statement}
 use Rattle.pg_model.specs.declared.statement.Statement.TheVariants as statement
 use Rattle.pg_world.specs.declared.candidate.Candidate.{Candidate}
+use Rattle.pg_world.specs.Changes.{change_choices_at}
+use Rattle.pg_world.specs.Choosing.{Choice, candidate_choices, does, fails}
 use Rattle.pg_world.specs.Evaluation.{OrError}
 use Rattle.pg_world.specs.declared.session.Running.{Running}
 use Rattle.pg_world.specs.declared.session.Stage.{Stage}
-use Rattle.pg_world.specs.declared.session.Stage.TheVariants.{Between as between, Found as found, Placed as placed}
+use Rattle.pg_world.specs.declared.session.Stage.TheVariants.{Between as between, Found as found, Locked as locked, Placed as placed}
 use Rattle.pg_world.specs.declared.table.TableView.{TableView}
 use Rattle.pg_world.specs.Tables.{next_row}
-
--- an act that is permitted now, or an error that the statement fails with
-pub data Choice : Type 0 where
-  does : EntryAct → Choice
-  fails : SqlError → Choice
-
--- the next of so many candidates is taken up; where none is left the statement is done
-abbrev pub candidate_choices : ℕ → ℕ → List Choice
-candidate_choices taken count =
-    if nat_lt taken count then does (entry.Found (taken + 1)) ∷ [] else []
 
 -- the proposed row draws the next number of its table
 abbrev pub placing_choices : ℕ → Option TableView → List Choice
@@ -34,6 +24,7 @@ placing_choices number None = []
 abbrev pub insert_choices : ℕ → List TableView → Running → ℕ → Stage → List Choice
 insert_choices number tables running count between = candidate_choices running.candidate count
 insert_choices number tables running count found = placing_choices number (item_at tables number)
+insert_choices number tables running count (locked name) = []
 insert_choices number tables running count (placed row) = does (entry.Inserted number row) ∷ []
 
 -- the choices of each form of statement with its candidates; a plain SELECT is answered from its
@@ -42,6 +33,8 @@ abbrev pub choices_with : Statement → List TableView → Transactions → Runn
     List Choice
 choices_with (statement.Insert insert) tables transactions running candidates =
     insert_choices insert.target.table tables running (length candidates) running.stage
+choices_with (statement.Change change) tables transactions running candidates =
+    change_choices_at change tables transactions running (length candidates) running.stage
 choices_with (statement.Select select) tables transactions running candidates = []
 choices_with statement.Begin tables transactions running candidates = []
 choices_with statement.Commit tables transactions running candidates = []

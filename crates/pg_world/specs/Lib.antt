@@ -3,6 +3,8 @@ pub mod Evaluation
 pub mod Candidates
 pub mod Sessions
 pub mod Worlds
+pub mod Choosing
+pub mod Changes
 pub mod Choices
 pub mod Replies
 pub mod Worked

@@ -1,11 +1,13 @@
 -- The reply of a statement that is done.
-use Rattle.std.specs.Prelude.{List, [], length, map, Option, None, Some, Ok, Err}
+use Rattle.std.specs.Prelude.{ℕ, List, [], length, map, Option, None, Some, Ok, Err}
 use Rattle.pg_lists.specs.Numbered.{nth_item}
 use Rattle.pg_values.specs.declared.value.Value.{Value}
 use Rattle.pg_values.specs.declared.value.Value.TheVariants.{Null, Bool, Int, Big, Text}
 use Rattle.pg_model.specs.declared.journal.Reply.{Reply}
 use Rattle.pg_model.specs.declared.journal.Tag.{Tag}
 use Rattle.pg_model.specs.declared.journal.Tag.TheVariants as tag
+use Rattle.pg_model.specs.declared.statement.Action.{Action}
+use Rattle.pg_model.specs.declared.statement.Action.TheVariants as action
 use Rattle.pg_model.specs.declared.statement.Statement.{Statement}
 use Rattle.pg_model.specs.declared.statement.Statement.TheVariants as statement
 use Rattle.pg_world.specs.declared.candidate.Candidate.{Candidate}
@@ -40,14 +42,21 @@ abbrev pub returned_rows : Statement → Running → List (List Value)
 returned_rows (statement.Select select) running =
     map (λ candidate. candidate.made) (candidate_list running.candidates)
 returned_rows (statement.Insert insert) running = running.output
+returned_rows (statement.Change change) running = running.output
 returned_rows statement.Begin running = []
 returned_rows statement.Commit running = []
 returned_rows statement.Rollback running = []
+
+-- the tag of an UPDATE or DELETE of so many rows
+abbrev pub change_tag : Action → ℕ → Tag
+change_tag (action.Set assignments) rows = tag.Update rows
+change_tag action.Delete rows = tag.Delete rows
 
 -- the tag: what the statement did, and to how many rows
 abbrev pub tag_of : Statement → Running → Tag
 tag_of (statement.Select select) running = tag.Select (length (candidate_list running.candidates))
 tag_of (statement.Insert insert) running = tag.Insert running.acts
+tag_of (statement.Change change) running = change_tag change.action running.acts
 tag_of statement.Begin running = tag.Begin
 tag_of statement.Commit running = tag.Commit
 tag_of statement.Rollback running = tag.Rollback

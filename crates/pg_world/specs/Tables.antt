@@ -1,5 +1,9 @@
 -- A table of the world, and what an entry does to it. All that is not named stays as it was.
-use Rattle.std.specs.Prelude.{ℕ, ◌+◌, ◌==◌, not, if◌then◌else◌, List, [], ◌∷◌, ◌++◌, filter, length, Option, None, Some}
+use Rattle.std.specs.Prelude.{ℕ, ◌+◌, ◌==◌, not, if◌then◌else◌, List, [], ◌∷◌, ◌++◌, filter, length, map, Option, None, Some, unwrap_or}
+use Rattle.pg_lists.specs.Numbered.{nth_item, with_changed_nth_item}
+use Rattle.pg_multi.specs.declared.row_lock.RowLock.{RowLock}
+use Rattle.pg_multi.specs.declared.strength.Strength.{Strength}
+use Rattle.pg_multi.specs.Locks.{lock_joined, locks_left}
 use Rattle.pg_values.specs.declared.value.Value.{Value}
 use Rattle.pg_xacts.specs.declared.me.Me.{Me}
 use Rattle.pg_heap.specs.declared.version.Version.{Version}
@@ -15,7 +19,7 @@ pub data TransactionEnd : Type 0 where
 
 -- a table of which no row number was drawn
 abbrev pub empty_table : TableView
-empty_table = record { rows = []; placed = [] }
+empty_table = record { rows = []; placed = []; locks = [] }
 
 -- the row number that the table draws next
 abbrev pub next_row : TableView → ℕ
@@ -38,12 +42,18 @@ placed_by_others placed xact = filter (λ one. not (one.me.xact == xact)) placed
 abbrev pub version_by : Me → List Value → Version
 version_by me values = record { values = Some values; writer = me.xact; command = me.command }
 
--- the table draws a number for a proposed row, whose values wait there to be stored
+-- the locks on the row of that number
+abbrev pub locks_on : TableView → ℕ → List RowLock
+locks_on table row = unwrap_or (nth_item table.locks row) []
+
+-- the table draws a number for a proposed row, whose values wait there to be stored; nobody holds a
+-- lock on it
 abbrev pub row_placed : TableView → Me → List Value → TableView
 row_placed table me values =
     record table {
       rows = row_drawn table.rows;
       placed = table.placed ++ record { row = next_row table; me = me; values = values } ∷ [];
+      locks = table.locks ++ [] ∷ [];
     }
 
 -- what is placed becomes the row's first version, by the command that stores it
@@ -64,13 +74,37 @@ abbrev pub row_added : TableView → Me → List Value → TableView
 row_added table me values =
     record table {
       rows = row_stored (row_drawn table.rows) (next_row table) (version_by me values);
+      locks = table.locks ++ [] ∷ [];
     }
 
--- a transaction ends: what it has placed there is given up, and a rollback takes its versions away
-abbrev pub table_after_end : ℕ → TransactionEnd → TableView → TableView
-table_after_end xact commit table = record table { placed = placed_by_others table.placed xact }
-table_after_end xact rollback table =
+-- the transaction holds the row at that strength too
+abbrev pub row_locked : TableView → ℕ → ℕ → Strength → TableView
+row_locked table xact row strength =
     record table {
-      rows = rows_without xact table.rows;
+      locks =
+          with_changed_nth_item (λ locks. lock_joined locks xact strength) table.locks row;
+    }
+
+-- the row gets a newest version: with new values, or without any, which says that it is gone
+abbrev pub row_changed : TableView → Me → ℕ → Option (List Value) → TableView
+row_changed table me row values =
+    record table {
+      rows =
+          row_stored table.rows row
+          (record { values = values; writer = me.xact; command = me.command });
+    }
+
+-- the rows behind the end of a transaction: a rollback takes its versions away
+abbrev pub rows_after_end : ℕ → TransactionEnd → List Row → List Row
+rows_after_end xact commit rows = rows
+rows_after_end xact rollback rows = rows_without xact rows
+
+-- a transaction ends: what it has placed there is given up, its locks end, and a rollback takes its
+-- versions away
+abbrev pub table_after_end : ℕ → TransactionEnd → TableView → TableView
+table_after_end xact end table =
+    record {
+      rows = rows_after_end xact end table.rows;
       placed = placed_by_others table.placed xact;
+      locks = map (λ locks. locks_left locks xact) table.locks;
     }

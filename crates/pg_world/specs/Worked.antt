@@ -1,5 +1,5 @@
 -- The table t with some rows, statements over it, and what comes of them, worked by hand.
-use Rattle.std.specs.Prelude.{ℕ, false, List, [], ◌∷◌, codes, None, Some, Ok, pos}
+use Rattle.std.specs.Prelude.{ℕ, false, List, [], ◌∷◌, codes, Option, None, Some, Ok, pos}
 use Rattle.pg_values.specs.declared.value.Kind.TheVariants as kind
 use Rattle.pg_values.specs.declared.value.Value.{Value}
 use Rattle.pg_values.specs.declared.value.Value.TheVariants.{Big, Int, Null}
@@ -7,12 +7,16 @@ use Rattle.pg_exprs.specs.declared.operator.Arithmetic.TheVariants.{Add, Divide}
 use Rattle.pg_exprs.specs.declared.operator.BinaryOp.TheVariants.{Compare, Compute}
 use Rattle.pg_exprs.specs.declared.operator.Comparison.TheVariants.{Equal, Greater}
 use Rattle.pg_exprs.specs.Tree.{Tree, binary, column, literal}
+use Rattle.pg_multi.specs.declared.row_lock.RowLock.{RowLock}
+use Rattle.pg_multi.specs.declared.strength.Strength.TheVariants.{NoKeyUpdate}
 use Rattle.pg_xacts.specs.declared.me.Me.{Me}
 use Rattle.pg_xacts.specs.declared.transaction.XStatus.{XStatus}
 use Rattle.pg_xacts.specs.declared.transaction.XStatus.TheVariants.{Committed, RolledBack, Running as IsRunning}
 use Rattle.pg_xacts.specs.Transactions.{Transactions}
 use Rattle.pg_heap.specs.declared.version.Version.{Version}
 use Rattle.pg_model.specs.declared.catalogue.TableShape.{TableShape}
+use Rattle.pg_model.specs.declared.statement.Action.TheVariants.{Delete, Set}
+use Rattle.pg_model.specs.declared.statement.Change.{Change}
 use Rattle.pg_model.specs.declared.statement.Insert.{Insert}
 use Rattle.pg_model.specs.declared.statement.NamedTable.{NamedTable}
 use Rattle.pg_model.specs.declared.statement.Select.{Select}
@@ -21,10 +25,11 @@ use Rattle.pg_world.specs.declared.candidate.Candidate.{Candidate}
 use Rattle.pg_world.specs.declared.candidate.SeenRow.{SeenRow}
 use Rattle.pg_world.specs.declared.placed.PlacedRow.{PlacedRow}
 use Rattle.pg_world.specs.declared.session.Running.{Running}
+use Rattle.pg_world.specs.declared.session.VersionName.{VersionName}
 use Rattle.pg_world.specs.declared.session.Stage.{Stage}
 use Rattle.pg_world.specs.declared.session.Stage.TheVariants.{Between as between}
 use Rattle.pg_world.specs.declared.table.TableView.{TableView}
-use Rattle.pg_world.specs.Candidates.{proposed_candidate}
+use Rattle.pg_world.specs.Candidates.{proposed_candidate, unmade_candidate}
 use Rattle.pg_world.specs.Sessions.{first_running, fresh_session}
 use Rattle.pg_world.specs.Tables.{empty_table, version_by}
 use Rattle.pg_world.specs.Worlds.{World}
@@ -175,6 +180,10 @@ written_by_setup = record { values = Some (int 4 ∷ Null ∷ []); writer = 0; c
 abbrev pub proposed_fifth : PlacedRow
 proposed_fifth = record { row = 5; me = second 2; values = row_t 5 50 }
 
+-- nobody holds a lock on one of five rows
+abbrev pub five_unlocked : List (List RowLock)
+five_unlocked = [] ∷ [] ∷ [] ∷ [] ∷ [] ∷ []
+
 -- row 1 has committed, row 2 has not, row 3 is gone, row 4 was deleted, and row 5 is placed
 abbrev pub five_rows : TableView
 five_rows =
@@ -186,6 +195,7 @@ five_rows =
           ∷ record { number = 4; versions = written_by_setup ∷ deleted_by_fourth ∷ [] }
           ∷ record { number = 5; versions = [] } ∷ [];
       placed = proposed_fifth ∷ [];
+      locks = five_unlocked;
     }
 
 -- row 1 as it is seen
@@ -249,6 +259,72 @@ four_pairs =
     pair_of first_seen 1 first_seen 1 ∷ pair_of first_seen 1 fourth_seen 4
     ∷ pair_of fourth_seen 4 first_seen 1 ∷ pair_of fourth_seen 4 fourth_seen 4 ∷ []
 
+-- UPDATE and DELETE.
+
+-- UPDATE t SET v = value WHERE condition
+abbrev pub update_of : Tree → Option Tree → Change
+update_of value condition =
+    record {
+      target = named_t;
+      action = Set (record { column = 1; value = value } ∷ []);
+      sources = [];
+      condition = condition;
+    }
+
+-- v + 1
+abbrev pub one_more : Tree
+one_more = binary (Compute Add) (column 0 1) (literal (int 1))
+
+-- UPDATE t SET v = v + 1
+abbrev pub raise_all : Change
+raise_all = update_of one_more None
+
+-- UPDATE t SET v = v + 1 WHERE v = 10
+abbrev pub raise_ten : Change
+raise_ten = update_of one_more (Some (binary (Compare Equal) (column 0 1) (literal (int 10))))
+
+-- UPDATE t SET v = 1 / 0
+abbrev pub divide_all : Change
+divide_all = update_of one_by_zero None
+
+-- DELETE FROM t
+abbrev pub delete_all : Change
+delete_all = record { target = named_t; action = Delete; sources = []; condition = None }
+
+-- a row as a candidate of which nothing is made yet
+abbrev pub unmade : SeenRow → Candidate
+unmade row = unmade_candidate (row ∷ [])
+
+-- an UPDATE or DELETE that has taken up its only candidate, which has come so far
+abbrev pub changing : Me → SeenRow → Stage → Running
+changing me row stage =
+    record (first_running me 1 (Ok (unmade row ∷ []))) { candidate = 1; stage = stage }
+
+-- the version that the first command of a transaction wrote
+abbrev pub written_by : ℕ → VersionName
+written_by xact = record { writer = xact; command = 1 }
+
+-- the five rows, of which transaction 2 has locked the first as for an UPDATE
+abbrev pub locked_rows : TableView
+locked_rows =
+    record five_rows {
+      locks = (record { xact = 2; strength = NoKeyUpdate } ∷ []) ∷ [] ∷ [] ∷ [] ∷ [] ∷ [];
+    }
+
+-- a table whose only row transaction 4 has changed: its v is now 12
+abbrev pub changed_rows : TableView
+changed_rows =
+    record {
+      rows =
+          record {
+            number = 1;
+            versions = by_first 1 (row_t 1 10) ∷ by_first 4 (row_t 1 12) ∷ [];
+          }
+          ∷ [];
+      placed = [];
+      locks = [] ∷ [];
+    }
+
 -- What a statement does next, and its reply.
 
 -- an INSERT of two rows with so many taken up, the last of which has come so far
@@ -281,6 +357,7 @@ small_world =
       tables = five_rows ∷ empty_table ∷ [];
       transactions = four_transactions;
       sessions = fresh_session ∷ fresh_session ∷ [];
+      waits = None ∷ None ∷ [];
     }
 
 -- the table with row 5 stored by a later command of transaction 2
@@ -294,6 +371,7 @@ five_stored =
           ∷ record { number = 4; versions = written_by_setup ∷ deleted_by_fourth ∷ [] }
           ∷ record { number = 5; versions = version_by (second 3) (row_t 5 50) ∷ [] } ∷ [];
       placed = [];
+      locks = five_unlocked;
     }
 
 -- the table once transaction 2 is rolled back: its version and what it has placed are gone
@@ -307,6 +385,7 @@ without_second =
           ∷ record { number = 4; versions = written_by_setup ∷ deleted_by_fourth ∷ [] }
           ∷ record { number = 5; versions = [] } ∷ [];
       placed = [];
+      locks = five_unlocked;
     }
 
 -- the transactions once transaction 2 has this status, and so many have committed

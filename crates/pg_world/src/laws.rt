@@ -1,23 +1,26 @@
 //! What the definitions say of one small table, worked by hand, and a law of placed rows: each is
 //! the contract of a function that does nothing.
 
-ghost use Rattle.std.specs.Prelude.{Err, None, Ok, ◌≡◌, ◌∷◌, [], List};
+ghost use Rattle.std.specs.Prelude.{Err, None, Ok, Some, ◌≡◌, ◌∷◌, [], List};
 ghost use Rattle.pg_values.specs.declared.value.Value.{Value};
 ghost use Rattle.pg_exprs.specs.Tree.{literal};
 ghost use Rattle.pg_xacts.specs.declared.me.Me.{Me};
 ghost use Rattle.pg_xacts.specs.declared.transaction.XStatus.TheVariants.{Committed, RolledBack};
+ghost use Rattle.pg_multi.specs.declared.strength.Strength.TheVariants.{NoKeyUpdate, Update};
 ghost use Rattle.pg_model.specs.declared.error.SqlError.TheVariants as error;
 ghost use Rattle.pg_model.specs.declared.journal.EntryAct.TheVariants as entry;
 ghost use Rattle.pg_model.specs.declared.journal.Tag.TheVariants as tag;
 ghost use Rattle.pg_model.specs.declared.statement.Statement.TheVariants as statement;
-ghost use Rattle.pg_world.specs.declared.session.Stage.TheVariants.{Between as between, Found as found, Placed as placed};
+ghost use Rattle.pg_world.specs.declared.session.Stage.TheVariants.{Between as between, Found as found, Locked as locked, Placed as placed};
 ghost use Rattle.pg_world.specs.declared.table.TableView.{TableView};
 ghost use Rattle.pg_world.specs.Candidates.{candidates_of, insert_candidates, proposed_candidate, seen_rows};
-ghost use Rattle.pg_world.specs.Choices.{choices, does, fails};
+ghost use Rattle.pg_world.specs.Changes.{values_to_hold};
+ghost use Rattle.pg_world.specs.Choices.{choices};
+ghost use Rattle.pg_world.specs.Choosing.{does, fails, waits};
 ghost use Rattle.pg_world.specs.Replies.{proposed_values, reply_of};
 ghost use Rattle.pg_world.specs.Sessions.{first_running};
 ghost use Rattle.pg_world.specs.Tables.{commit, empty_table, next_row, placed_at, rollback, row_added, row_inserted, row_placed, table_after_end};
-ghost use Rattle.pg_world.specs.Worked.{fifth, first_candidate, first_seen, five_rows, five_stored, four_pairs, four_transactions, fourth_candidate, fourth_seen, insert_failing, insert_key, insert_keys, insert_swapped, int, one_by_zero, replied_rows, row_t, second, second_seen, select_all, select_failing, select_greater, select_pairs, small_world, swapped_candidates, with_both, with_second, with_selected, with_taken_up, without_second};
+ghost use Rattle.pg_world.specs.Worked.{changed_rows, changing, delete_all, divide_all, fifth, first_candidate, first_seen, five_rows, five_stored, four_pairs, four_transactions, fourth_candidate, fourth_seen, insert_failing, insert_key, insert_keys, insert_swapped, int, locked_rows, one_by_zero, raise_all, raise_ten, replied_rows, row_t, second, second_seen, select_all, select_failing, select_greater, select_pairs, small_world, swapped_candidates, with_both, with_second, with_selected, unmade, with_taken_up, without_second, written_by};
 ghost use Rattle.pg_world.specs.Worlds.{with_end};
 
 /// What INSERTs propose: values in the order of the columns, fitted to them; a default for a column
@@ -78,6 +81,53 @@ pub fn worked_choices()
         (first_running fifth 1 (Err error.IntRange)) ≡ fails error.IntRange ∷ [] }
 {}
 
+/// What an UPDATE or DELETE takes up: each row that it sees and of which its WHERE is true.
+#[tactic(auto, unfolding(crate::specs::Candidates::candidates_over))]
+pub fn worked_change_candidates()
+    ensures all { candidates_of (statement.Change raise_all) (five_rows ∷ []) four_transactions 1
+        (second 2) ≡ Ok (unmade first_seen ∷ unmade second_seen ∷ unmade fourth_seen ∷ []) }
+    ensures some { candidates_of (statement.Change raise_ten) (five_rows ∷ []) four_transactions 1
+        (second 2) ≡ Ok (unmade first_seen ∷ []) }
+{}
+
+/// What it does with a row that it has found: it locks the row, a DELETE more strongly; it waits for
+/// who holds a lock that conflicts, also where its own lock would be weaker; it passes a row that is
+/// gone, or that it has changed already; and an error of its SET comes before any lock.
+pub fn worked_locking()
+    ensures free { choices (statement.Change raise_all) (five_rows ∷ []) four_transactions
+        (changing (second 2) first_seen found) ≡ does (entry.Locked 0 1 NoKeyUpdate) ∷ [] }
+    ensures delete { choices (statement.Change delete_all) (five_rows ∷ []) four_transactions
+        (changing (second 2) first_seen found) ≡ does (entry.Locked 0 1 Update) ∷ [] }
+    ensures own { choices (statement.Change delete_all) (locked_rows ∷ []) four_transactions
+        (changing (second 2) first_seen found) ≡ does (entry.Locked 0 1 Update) ∷ [] }
+    ensures held { choices (statement.Change raise_all) (locked_rows ∷ []) four_transactions
+        (changing fifth first_seen found) ≡ waits 1 ∷ [] }
+    ensures gone { choices (statement.Change raise_all) (five_rows ∷ []) four_transactions
+        (changing (second 2) fourth_seen found) ≡ does entry.Passed ∷ [] }
+    ensures twice { choices (statement.Change raise_all) (five_rows ∷ []) four_transactions
+        (changing (second 1) second_seen found) ≡ does entry.Passed ∷ [] }
+    ensures error { choices (statement.Change divide_all) (locked_rows ∷ []) four_transactions
+        (changing fifth first_seen found) ≡ fails error.ZeroDivisor ∷ [] }
+{}
+
+/// What it does with a row that it has locked: it changes the version that it has seen; where
+/// another is current it looks at that again, and passes the row unless its WHERE is true of it; and
+/// it is this version of which SET makes the new values.
+pub fn worked_second_looks()
+    ensures seen { choices (statement.Change raise_ten) (five_rows ∷ []) four_transactions
+        (changing (second 2) first_seen (locked (written_by 1))) ≡ does (entry.Updated 0 1) ∷ [] }
+    ensures values { values_to_hold raise_all (five_rows ∷ [])
+        (changing (second 2) first_seen (locked (written_by 1))) ≡ Ok (Some (row_t 1 11)) }
+    ensures passed { choices (statement.Change raise_ten) (changed_rows ∷ []) four_transactions
+        (changing (second 2) first_seen (locked (written_by 4))) ≡ does entry.Passed ∷ [] }
+    ensures again { choices (statement.Change raise_all) (changed_rows ∷ []) four_transactions
+        (changing (second 2) first_seen (locked (written_by 4))) ≡ does (entry.Updated 0 1) ∷ [] }
+    ensures newer { values_to_hold raise_all (changed_rows ∷ [])
+        (changing (second 2) first_seen (locked (written_by 4))) ≡ Ok (Some (row_t 1 13)) }
+    ensures delete { choices (statement.Change delete_all) (changed_rows ∷ []) four_transactions
+        (changing (second 2) first_seen (locked (written_by 4))) ≡ does (entry.Deleted 0 1) ∷ [] }
+{}
+
 /// What statements are answered: the tag counts the rows returned or inserted, an INSERT returns no
 /// row, and integers are shown as bigints.
 pub fn worked_replies()
@@ -92,12 +142,12 @@ pub fn worked_replies()
 /// leaves them, and both give up what it has placed; among the transactions it takes the next
 /// place, or is rolled back.
 pub fn worked_ends()
-    ensures committed { with_end small_world 2 commit
+    ensures committed { with_end small_world 1 2 commit
         ≡ record small_world {
           tables = record five_rows { placed = [] } ∷ empty_table ∷ [];
           transactions = with_second (Committed 3) 3;
         } }
-    ensures undone { with_end small_world 2 rollback
+    ensures undone { with_end small_world 1 2 rollback
         ≡ record small_world {
           tables = without_second ∷ empty_table ∷ [];
           transactions = with_second RolledBack 2;

@@ -11,9 +11,9 @@ mod table;
 
 pub use candidate::{Candidate, SeenRow};
 pub use laws::{
-    placed_row_is_added, worked_choices, worked_ends, worked_inserts, worked_replies,
-    worked_selects, worked_sight,
+    placed_row_is_added, worked_change_candidates, worked_choices, worked_ends, worked_inserts,
+    worked_locking, worked_replies, worked_second_looks, worked_selects, worked_sight,
 };
 pub use placed::PlacedRow;
-pub use session::{Block, Progress, Running, SessionView, Stage};
+pub use session::{Block, Progress, Running, SessionView, Stage, VersionName};
 pub use table::TableView;

@@ -13,12 +13,23 @@ pub enum Block {
     FailedBlock,
 }
 
+/// A version of a row, named by who wrote it: there is at most one of that name in a row.
+#[derive(Clone, Copy, Debug, PartialEq, Eq)]
+pub struct VersionName {
+    /// The number of the transaction that wrote it.
+    pub writer: u32,
+    /// The command of that transaction that wrote it.
+    pub command: u32,
+}
+
 /// How far the candidate has come that was taken up last.
 #[derive(Clone, Copy, Debug, PartialEq, Eq)]
 pub enum Stage {
     /// It has had its act, or there is none.
     Between,
     Found,
+    /// Its row is locked; that version was current then.
+    Locked(VersionName),
     /// Its proposed row is placed under that number.
     Placed(u64),
 }

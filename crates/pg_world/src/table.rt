@@ -1,6 +1,7 @@
 use crate::PlacedRow;
 use pg_heap::Row;
 use pg_lists::Items;
+use pg_multi::RowLock;
 
 /// A table.
 #[derive(Debug, Drop)]
@@ -9,4 +10,6 @@ pub struct TableView {
     pub rows: Items<Row>,
     /// What is placed there.
     pub placed: Items<PlacedRow>,
+    /// For each row, in order of number, the locks on it: of running transactions alone.
+    pub locks: Items<Items<RowLock>>,
 }

@@ -1,6 +1,6 @@
 -- The columns so far, and the parts left.
 use Rattle.std.proofs.Common.{◌≡◌, ◌++◌, [], drop}
-use Rattle.pg_analyse.specs.Scope.{column_names}
+use Rattle.pg_resolve.specs.Scope.{column_names}
 use Rattle.pg_analyse.specs.Tables.{declared_columns, twice_errors}
 use Rattle.pg_analyse.proofs.declarations.new_columns.Given as goal
 

@@ -1,5 +1,4 @@
 -- A fault of the rows, behind columns and counts without one.
-use Rattle.std.proofs.Common.{refl}
 use Rattle.pg_analyse.proofs.Inserting.{insert_stops}
 use Rattle.pg_analyse.proofs.inserts.insert_into.Goals as goal
 

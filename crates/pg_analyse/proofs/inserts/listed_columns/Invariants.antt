@@ -3,7 +3,7 @@ use Rattle.std.proofs.Common.{◌≡◌, ◌++◌, [], drop}
 use Rattle.std.specs.List.{filter_map}
 use Rattle.pg_names.specs.Names.{number_of}
 use Rattle.pg_analyse.specs.Inserts.{listed_errors}
-use Rattle.pg_analyse.specs.Scope.{column_names}
+use Rattle.pg_resolve.specs.Scope.{column_names}
 use Rattle.pg_analyse.proofs.inserts.listed_columns.Given as goal
 
 abbrev pub invariant-loop-name : goal.invariant-loop-name

@@ -2,7 +2,7 @@
 use Rattle.std.proofs.Common.{◌≡◌, ◌&&◌, ◌++◌, [], drop, flat_map, map}
 use Rattle.pg_analyse.specs.Built.{is_empty}
 use Rattle.pg_analyse.specs.Inserts.{store_errors}
-use Rattle.pg_analyse.specs.Resolved.{expr_errors, expr_of_tree}
+use Rattle.pg_resolve.specs.Resolved.{expr_errors, expr_of_tree}
 use Rattle.pg_analyse.proofs.inserts.resolve_rows.Given as goal
 
 abbrev pub invariant-loop-tuple : goal.invariant-loop-tuple

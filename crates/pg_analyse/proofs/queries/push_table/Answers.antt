@@ -1,5 +1,4 @@
 -- The table that was found is the source.
-use Rattle.std.proofs.Common.{◌≡◌}
 use Rattle.pg_analyse.proofs.queries.push_table.Goals as goal
 
 pub returns-clause-sources : goal.returns-clause-sources

@@ -1,7 +1,7 @@
 -- The sources so far, and those left.
 use Rattle.std.proofs.Common.{◌≡◌, ◌++◌, [], drop}
 use Rattle.pg_analyse.specs.Queries.{relation_errors, scope_of, sources_of, tables_in}
-use Rattle.pg_analyse.specs.Scope.{source_names}
+use Rattle.pg_resolve.specs.Scope.{source_names}
 use Rattle.pg_analyse.proofs.queries.relations.Given as goal
 
 abbrev pub invariant-loop-joined : goal.invariant-loop-joined

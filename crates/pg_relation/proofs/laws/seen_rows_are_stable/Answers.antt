@@ -1,5 +1,6 @@
 use Rattle.pg_relation.specs.Journals.{world_after}
-use Rattle.pg_relation.proofs.Stable.{spares_entry, stable_after}
+use Rattle.pg_relation.proofs.Sparing.{spares_entry}
+use Rattle.pg_relation.proofs.Stable.{stable_after}
 use Rattle.pg_relation.proofs.laws.seen_rows_are_stable.Goals as goal
 
 pub returns : goal.returns

@@ -1,7 +1,6 @@
-use Rattle.std.proofs.Common.{◌&&◌, ◌∙◌, ap, arith, map, not, sym}
+use Rattle.std.proofs.Common.{◌&&◌, ◌∙◌, ap, arith, not, sym}
 use Rattle.pg_board.specs.Queues.{has_taken}
 use Rattle.pg_board.specs.Servers.{kept_session}
-use Rattle.pg_board.specs.Steps.{place_quiet}
 use Rattle.pg_board.proofs.Tying.{tied_count, unqueued_is}
 use Rattle.pg_board.proofs.board.Board.has_empty_queue.Goals as goal
 
@@ -18,7 +17,7 @@ returns-else-stands_idle c =
     ∙ ap (λ b. b && not (has_taken c.self.inside.queues c.args.number (kept_session c.session-session.result.now)))
     (sym (sym c.stands_idle.ensures ∙ c.if-stands_idle.false))
     ∙ unqueued_is c.self.inside.script.now c.self.inside.journal.items c.self.inside.server c.self.inside.queues c.self.inside.taken
-    c.self.inside.last (map (λ session. place_quiet c.self.inside.server.tables session.place) c.self.inside.server.sessions)
+    c.self.inside.last c.self.inside.waited.items
     c.self.invariant c.args.number c.session-session.result.now c.session-session.ensures)
 
 pub returns-then-stands_idle : goal.returns-then-stands_idle
@@ -28,5 +27,5 @@ returns-then-stands_idle c =
     ∙ ap (λ b. b && not (has_taken c.self.inside.queues c.args.number (kept_session c.session-session.result.now)))
     (sym (sym c.stands_idle.ensures ∙ c.if-stands_idle.true))
     ∙ unqueued_is c.self.inside.script.now c.self.inside.journal.items c.self.inside.server c.self.inside.queues c.self.inside.taken
-    c.self.inside.last (map (λ session. place_quiet c.self.inside.server.tables session.place) c.self.inside.server.sessions)
+    c.self.inside.last c.self.inside.waited.items
     c.self.invariant c.args.number c.session-session.result.now c.session-session.ensures)

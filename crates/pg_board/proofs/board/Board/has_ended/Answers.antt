@@ -1,5 +1,4 @@
-use Rattle.std.proofs.Common.{◌∙◌, arith, map}
-use Rattle.pg_board.specs.Steps.{place_quiet}
+use Rattle.std.proofs.Common.{◌∙◌, arith}
 use Rattle.pg_board.proofs.Tying.{ended_is, tied_count}
 use Rattle.pg_board.proofs.board.Board.has_ended.Goals as goal
 
@@ -14,5 +13,5 @@ returns c =
     rw (← c.self.view_is)
     (c.stands_closed.ensures
     ∙ ended_is c.self.inside.script.now c.self.inside.journal.items c.self.inside.server c.self.inside.queues c.self.inside.taken
-    c.self.inside.last (map (λ session. place_quiet c.self.inside.server.tables session.place) c.self.inside.server.sessions)
+    c.self.inside.last c.self.inside.waited.items
     c.self.invariant c.args.number c.session.result.now c.session.ensures)

@@ -3,5 +3,5 @@ use Rattle.pg_table.proofs.table.Table.ended.Goals as goal
 
 pub invariant_of-self : goal.invariant_of-self
 invariant_of-self c =
-    rw c.ended.ensures
-    (table_ended c.args.xact (record { store = c.self.inside.rows; placings = c.self.inside.placings.items }) c.self.invariant)
+    rw (c.ended.ensures, c.end.ensures)
+    (table_ended c.args.xact (record { store = c.self.inside.rows; placings = c.self.inside.placings.items; locks = c.self.inside.locks }) c.self.invariant)

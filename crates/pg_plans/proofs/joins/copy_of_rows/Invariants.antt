@@ -1,0 +1,8 @@
+-- The rows so far, and those left.
+use Rattle.std.proofs.Common.{◌≡◌, ◌++◌, drop}
+use Rattle.pg_plans.specs.LentRows.{lent_rows}
+use Rattle.pg_plans.proofs.joins.copy_of_rows.Given as goal
+
+abbrev pub invariant-loop-row : goal.invariant-loop-row
+invariant-loop-row l =
+    lent_rows l.partners ++ lent_rows (drop l.row-index l.rows) ≡ lent_rows l.rows

@@ -1,0 +1,8 @@
+mod Rows
+mod Seen
+mod Looked
+mod Choices
+mod Staged
+mod Doing
+mod Planned
+mod Bounded
