@@ -300,7 +300,63 @@ b replied UPDATE 1
 a closed
 b closed
 table t
-2|25";
+2|25
+
+rc 1 stepped
+setup: CREATE TABLE t (k integer, v integer)
+setup: INSERT INTO t VALUES (1, 10), (2, 20)
+a: BEGIN
+a: UPDATE t SET v = v + 1 WHERE v = 10
+b: UPDATE t SET v = v + 5 WHERE v = 10
+a: COMMIT
+=>
+a replied BEGIN
+a snapped 0
+a found 1
+a locked t 1 no key update
+a updated t 1
+a replied UPDATE 1
+b snapped 0
+b found 1
+b waits a
+a committed
+a replied COMMIT
+b locked t 1 no key update
+b passed
+b committed
+b replied UPDATE 0
+a closed
+b closed
+table t
+1|11
+2|20
+
+rc 1 stepped
+setup: CREATE TABLE t (k integer, v integer)
+setup: INSERT INTO t VALUES (1, 10), (2, 20)
+a: BEGIN
+a: DELETE FROM t WHERE v = 10
+b: DELETE FROM t WHERE v = 10
+a: COMMIT
+=>
+a replied BEGIN
+a snapped 0
+a found 1
+a locked t 1 update
+a deleted t 1
+a replied DELETE 1
+b snapped 0
+b found 1
+b waits a
+a committed
+a replied COMMIT
+b passed
+b committed
+b replied DELETE 0
+a closed
+b closed
+table t
+2|20";
 
 #[test]
 fn changes_are_run(rt: HostRuntime) -> Result<(), AllocError> {
